@@ -1,0 +1,5 @@
+pub mod Sums
+pub mod Counts
+pub mod Orders
+pub mod Fills
+pub mod Rows

@@ -1,0 +1,4 @@
+pub mod Groups
+pub mod Merit
+pub mod Laws
+pub mod Supply

@@ -1,0 +1,7 @@
+// The least-cost split of a contract group's share over its units.
+mod fill;
+mod group;
+mod merit;
+
+pub use fill::split;
+pub use group::total_cost;
