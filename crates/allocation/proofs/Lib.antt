@@ -3,3 +3,4 @@ pub mod Counts
 pub mod Orders
 pub mod Fills
 pub mod Rows
+pub mod TwoUnits
