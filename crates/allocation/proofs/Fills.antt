@@ -51,8 +51,8 @@ below-more P n each here i lt =
     ⊎-elim (λ (same : i ≡ n). rw same here) (λ (other : i ≡ n → ⊥). each i (omega arith)) (cases-eq i n)
 
 -- one more unit is filled
-pub filled-more : (g : Group) (n p before left : ℕ) (a b : ℕ → ℕ) (more : ℕ) → Filled g n p before left a → ((i : ℕ) → i < n → b i ≡ a i) → Parted g p n → more ≡ min (upTo g p n - below g p n) left → b n ≡ below g p n + more → Filled g (n + 1) p before (left - more) b
-filled-more g n p before left a b more filled same parted is-more here = record {
+pub filled-more : (g : Group) (n p before left after : ℕ) (a b : ℕ → ℕ) (more : ℕ) → Filled g n p before left a → ((i : ℕ) → i < n → b i ≡ a i) → Parted g p n → more ≡ min (upTo g p n - below g p n) left → b n ≡ below g p n + more → after ≡ left - more → Filled g (n + 1) p before after b
+filled-more g n p before left after a b more filled same parted is-more here rest = record {
   parted = below-more (Parted g p) n (filled .parted) parted;
   low = below-more (λ i. below g p i ≤ b i) n (λ i lt. omega (arith, same i lt, filled .low i lt)) (omega arith);
   high = below-more (λ i. b i ≤ upTo g p i) n (λ i lt. omega (arith, same i lt, filled .high i lt)) (omega (arith, cheaper-first (g .price n) (g .limit n) p _ _ (parted .cheaper) (parted .marginal)));
@@ -60,7 +60,7 @@ filled-more g n p before left a b more filled same parted is-more here = record 
   stops = λ i j lt at short. below-more (λ k. i < k → b k ≡ below g p k) n
     (λ k kt it. same k kt ∙ filled .stops i k it kt (omega (arith, same i (omega arith))))
     (λ it. omega (arith, filled .short i it (omega (arith, same i it)))) j at lt;
-  short = below-more (λ i. b i < upTo g p i → left - more ≡ 0) n
+  short = below-more (λ i. b i < upTo g p i → after ≡ 0) n
     (λ i lt short. omega (arith, filled .short i lt (omega (arith, same i lt))))
     (λ short. omega arith);
 }
@@ -93,8 +93,8 @@ in-order g n p before after a filled i k j m it jt low high above within =
         ⊎-elim (λ (lt : upTo g p j < m). absurd (omega (arith, pj .marginal .dear m lt within))) (λ le. le) (cases-lt (upTo g p j) m)
 
 -- a filled group at the clearing price is in merit order, and what is left is what the amounts leave uncovered
-pub filled-merit : (g : Group) (share p after : ℕ) (a : ℕ → ℕ) → ((i k : ℕ) → g .price i k ≤ 10000000) → Clearing g (g .units) share p → Filled g (g .units) p (share - sumOf (g .units) (below g p)) after a → MeritOrder g share a × (after ≡ share - total g a)
-filled-merit g share p after a bounded clearing filled =
+pub filled-merit : (g : Group) (share p before after : ℕ) (a : ℕ → ℕ) → ((i k : ℕ) → g .price i k ≤ 10000000) → Clearing g (g .units) share p → before ≡ share - sumOf (g .units) (below g p) → Filled g (g .units) p before after a → MeritOrder g share a × (after ≡ share - total g a)
+filled-merit g share p before after a bounded clearing rest filled =
     let n = g .units in
     let enough = supply-below g n share p clearing in
     let high : sumOf n a ≤ sumOf n (g .limit) = sum-le n a (g .limit) (λ i lt. omega (arith, filled .high i lt, count-le (g .price i) (g .limit i) p)) in
@@ -109,7 +109,7 @@ filled-merit g share p after a bounded clearing filled =
     (record {
       within = λ i lt. omega (arith, filled .high i lt, count-le (g .price i) (g .limit i) p);
       covered = covered;
-      order = in-order g n p (share - sumOf n (below g p)) after a filled;
+      order = in-order g n p before after a filled;
     }, omega arith)
 
 -- the merit order of amounts that are the same for each unit

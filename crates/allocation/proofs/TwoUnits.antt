@@ -81,8 +81,9 @@ worked-example = record {
 }
 
 -- what is promised of a split pins the amounts of 150
-pub pinned : (first second : SteppedOffer) (row : List ℕ) (left : ℕ) → first ≡ twoSteps (step 50 300) (step 50 500) → second ≡ twoSteps (step 80 400) (step 20 500) → length row ≡ 2 → Split (groupOf steppedOfferPrice (first ∷ (second ∷ [])) (100 ∷ (100 ∷ [])) 2) 150 (amountAt row) left → row ≡ 70 ∷ (80 ∷ [])
-pinned first second row left is-first is-second two promised =
-    let of = λ (o p : SteppedOffer). Split (groupOf steppedOfferPrice (o ∷ (p ∷ [])) (100 ∷ (100 ∷ [])) 2) 150 (amountAt row) left in
-    let split = subst (of (twoSteps (step 50 300) (step 50 500))) is-second (subst (λ o. of o second) is-first promised) in
+pub pinned : (first second : SteppedOffer) (share : ℕ) (row : List ℕ) (left : ℕ) → first ≡ twoSteps (step 50 300) (step 50 500) → second ≡ twoSteps (step 80 400) (step 20 500) → share ≡ 150 → length row ≡ 2 → Split (groupOf steppedOfferPrice (first ∷ (second ∷ [])) (100 ∷ (100 ∷ [])) 2) share (amountAt row) left → row ≡ 70 ∷ (80 ∷ [])
+pinned first second share row left is-first is-second is-150 two promised =
+    let of = λ (o p : SteppedOffer) (s : ℕ). Split (groupOf steppedOfferPrice (o ∷ (p ∷ [])) (100 ∷ (100 ∷ [])) 2) s (amountAt row) left in
+    let known = subst (λ p. of (twoSteps (step 50 300) (step 50 500)) p share) is-second (subst (λ o. of o second share) is-first promised) in
+    let split = subst (of (twoSteps (step 50 300) (step 50 500)) (twoSteps (step 80 400) (step 20 500))) is-150 known in
     ext-getD 0 row (70 ∷ (80 ∷ [])) two (λ i lt. sym (split .only (amounts 70 80) (worked-example .of-150) i (omega arith)))

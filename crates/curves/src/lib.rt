@@ -1,18 +1,19 @@
 // Price curves and offers: what each kilowatt-hour costs, in rial per MWh.
-mod derived;
 mod limits;
+mod modified_curve;
+mod raised_curve;
 mod refusals;
 mod single_rate;
 mod stepped;
 mod steps;
 mod traits;
 
-pub use derived::Modified;
-pub use derived::ModifiedCurve;
-pub use derived::Raised;
-pub use derived::RaisedCurve;
 pub use limits::MAX_KWH;
 pub use limits::MAX_PRICE;
+pub use modified_curve::Modified;
+pub use modified_curve::ModifiedCurve;
+pub use raised_curve::Raised;
+pub use raised_curve::RaisedCurve;
 pub use refusals::CurveRefusal;
 pub use single_rate::Tariff;
 pub use single_rate::TariffCurve;

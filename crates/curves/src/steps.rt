@@ -12,6 +12,9 @@ use crate::limits::MAX_PRICE;
 use crate::limits::read_kwh;
 use crate::refusals::CurveRefusal;
 
+// The most steps of a curve.
+const MAX_STEPS: usize = 10;
+
 /// A width in kWh and the price of each of them.
 #[derive(Clone, Copy)]
 pub struct Step {
@@ -23,7 +26,7 @@ pub struct Step {
 #[derive(Clone, Copy)]
 pub struct StepTable {
     pub count: u32,
-    pub steps: [Step; 10],
+    pub steps: [Step; MAX_STEPS],
 }
 
 /// How a step's price is read after the step before it.
@@ -104,11 +107,11 @@ fn prices_fit(list: &[Step]) -> bool
 }
 
 // The list in a table's places, and blank steps behind it.
-fn padded(list: &[Step]) -> [Step; 10]
+fn padded(list: &[Step]) -> [Step; MAX_STEPS]
     requires { ⌜ length (now list) ≤ 10 ⌝ }
     ensures { λ r. ⌜ r ≡ paddedSteps (now (list .entry)) ⌝ }
 {
-    let mut steps = [Step { width: 0, price: 0 }; 10];
+    let mut steps = [Step { width: 0, price: 0 }; MAX_STEPS];
     steps[0..list.len()].copy_from_slice(list);
     steps
 }
@@ -133,11 +136,11 @@ pub(crate) fn level_in(steps: &[Step], reading: Reading, kwh: u32) -> Level
 }
 
 // The steps in use.
-fn used(steps: &[Step; 10], count: u32) -> &[Step]
+fn used(steps: &[Step; MAX_STEPS], count: u32) -> &[Step]
     ensures { λ r. ⌜ now r ≡ take (readCount count) (now (steps .entry)) ⌝ }
 {
-    let n = count.min(10).max(1);
-    &steps[0..n as usize]
+    let n = (count as usize).min(MAX_STEPS).max(1);
+    &steps[0..n]
 }
 
 impl StepTable {
@@ -146,7 +149,7 @@ impl StepTable {
         ensures answer { λ r. ⌜ r ≡ tableMade reading (now (list .entry)) ⌝ }
         ensures meaning { λ r. ⌜ made r (λ t. stepsOf reading t ≡ now (list .entry)) ⌝ }
     {
-        if list.is_empty() || list.len() > 10 || !widths_fit(list) || reading.falls(list) {
+        if list.is_empty() || list.len() > MAX_STEPS || !widths_fit(list) || reading.falls(list) {
             return Err(CurveRefusal::Steps);
         }
         if !prices_fit(list) {

@@ -5,5 +5,5 @@ use Rattle.allocation.proofs.example.worked_example.Needs as need
 pub returns : need.returns
 returns c = record {
   stands = worked-example;
-  amounts = pinned _ _ _ _ (c .two-steps-first .ensures) (c .two-steps-second .ensures) (omega arith) (c .split-uncovered .ensures);
+  amounts = pinned _ _ _ _ _ (c .two-steps-first .ensures) (c .two-steps-second .ensures) (omega arith) (omega arith) (c .split-uncovered .ensures);
 }

@@ -1,6 +1,7 @@
 use mathlib.Core.Path.{_≡_, ap, sym, _∙_}
 use mathlib.Core.Bool.{true, false}
 use mathlib.Core.List.{List}
+use native.Mathlib.Omega.{arith}
 use lib.ListN.{length}
 use Rattle.std.specs.declared.result.Result.{Result}
 use Rattle.std.specs.declared.result.Result.the-variants.{Ok}
@@ -17,7 +18,7 @@ pub returns : need.returns
 returns c =
     let list = c .args .list .now in
     let reading = c .args .reading in
-    let good : badSteps reading list ≡ false = or-from _ _ (sym (c .if-is-empty .ensures tt)) (or-from _ _ (le-ltb _ _ (c .if-list-gt10 .left))
+    let good : badSteps reading list ≡ false = or-from _ _ (sym (c .if-is-empty .ensures tt)) (or-from _ _ (le-ltb _ _ (omega arith))
       (or-from _ _ (not-from-true _ (sym (c .if-not-widths-fit .ensures tt))) (sym (c .if-falls .ensures tt)))) in
     let prices : pricesFit list ≡ true = sym (c .if-not-prices-fit .ensures tt) in
     let table = λ (steps : List Step). let t : StepTable = record { count = length list; steps = steps } in t in
