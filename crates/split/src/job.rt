@@ -3,9 +3,11 @@ ghost use mathlib.Core.Path.{_≡_};
 ghost use mathlib.Core.Bool.{true};
 ghost use mathlib.Core.List.{[], _∷_, _++_};
 ghost use Prim.Native.Nat.{_≤_};
+ghost use Rattle.std.specs.Of.String.{string-bytes};
 ghost use Rattle.std.specs.Of.Vec.{vec-items, vec-len};
 ghost use Rattle.std.specs.Vec.{made};
 ghost use Rattle.std.specs.declared.result.Result.the-variants.{Err};
+ghost use Rattle.split.specs.Answers.{Answer, AddsAnswer};
 ghost use Rattle.split.specs.declared.faults.Fault.the-variants.{UnitAfterShare};
 use crate::faults::Fault;
 use crate::faults::FaultDisplay;
@@ -70,25 +72,29 @@ impl Job {
         Ok(())
     }
 
-    fn answer_share(&mut self, heap: Global, share: u32) -> Result<(), Fault> {
+    // Splits a share over the units, and writes down what came of it.
+    fn answer_share(&mut self, heap: Global, share: u32) -> Result<(), Fault>
+        ensures { λ r. ⌜ made r (λ _. AddsAnswer (vec-items (now (self .entry) .offers)) (vec-items (now (self .entry) .limits)) share (string-bytes (now (self .entry) .text)) (string-bytes (now (self .exit) .text))) ⌝ }
+    {
         self.shares_begun = true;
-        let offers = self.offers.as_slice();
-        let mut amounts = vec![in heap; 0u32; offers.len()]?;
-        let uncovered = split(
-            offers,
-            self.limits.as_slice(),
-            share,
-            amounts.as_mut_slice(),
-        );
-        let cost = total_cost(offers, amounts.as_slice());
-        let answer = share_text(heap, share, amounts.as_slice(), cost, uncovered)?;
+        let answer = answer_text(heap, self.offers.as_slice(), self.limits.as_slice(), share)?;
         self.text.push_str(answer.as_str())?;
         Ok(())
     }
 }
 
+// The lines for a share that is split over these units.
+fn answer_text(heap: Global, offers: &[SteppedOffer], limits: &[u32], share: u32) -> Result<String, AllocError>
+    ensures { λ r. ⌜ made r (λ t. Answer (now (offers .entry)) (now (limits .entry)) share (string-bytes t)) ⌝ }
+{
+    let mut amounts = vec![in heap; 0u32; offers.len()]?;
+    let uncovered = split(offers, limits, share, amounts.as_mut_slice());
+    let cost = total_cost(offers, amounts.as_slice());
+    share_text(heap, share, amounts.as_slice(), cost, uncovered)
+}
+
 /// The text that answers a job, up to the first line that can't be taken.
-pub fn run(heap: Global, text: &str) -> Result<String, AllocError> {
+pub(crate) fn run(heap: Global, text: &str) -> Result<String, AllocError> {
     let mut job = Job::new(heap);
     for (i, line) in text.split('\n').enumerate() {
         if let Err(fault) = job.take_line(heap, line) {
@@ -102,7 +108,7 @@ pub fn run(heap: Global, text: &str) -> Result<String, AllocError> {
 }
 
 /// What a program answers to the bytes of its input.
-pub fn answer(heap: Global, input: &[u8]) -> Result<String, AllocError> {
+pub(crate) fn answer(heap: Global, input: &[u8]) -> Result<String, AllocError> {
     if input.len() as u64 > MAX_INPUT {
         return format!(heap, "the input is over {MAX_INPUT} bytes\n");
     }

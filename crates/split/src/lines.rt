@@ -31,7 +31,7 @@ enum Keyword {
 }
 
 /// Reads a line; an empty one says nothing.
-pub fn read_line(heap: Global, text: &str) -> Result<Option<Line>, Fault> {
+pub(crate) fn read_line(heap: Global, text: &str) -> Result<Option<Line>, Fault> {
     let words = words_of(heap, text)?;
     let Some((first, rest)) = words.as_slice().split_first() else {
         return Ok(None);

@@ -7,7 +7,7 @@ use std::alloc::AllocError;
 use std::alloc::Global;
 
 /// A share, the amount of each unit, their cost and what is not covered, a line for each.
-pub fn share_text(
+pub(crate) fn share_text(
     heap: Global,
     share: u32,
     amounts: &[u32],

@@ -16,7 +16,7 @@ struct Kwh {
 
 impl Outcome {
     /// The outcome of taking one kWh after the other, the cheapest first.
-    pub fn by_kwh(heap: Global, case: &Case) -> Result<Outcome, AllocError> {
+    pub(crate) fn by_kwh(heap: Global, case: &Case) -> Result<Outcome, AllocError> {
         let mut left = all_kwh(heap, case.units.as_slice())?;
         left.sort();
         let mut outcome = Outcome {

@@ -52,7 +52,7 @@ pub impl fmt::Display for Tally as TallyDisplay {
 }
 
 /// Compares the split over one kind of offer with the second calculation.
-pub fn compare_splits<O: FromSteps>(
+pub(crate) fn compare_splits<O: FromSteps>(
     heap: Global,
     groups: u32,
     most_steps: u32,
@@ -70,7 +70,7 @@ pub fn compare_splits<O: FromSteps>(
 }
 
 /// Compares the costs and counts of stepped offers with those of the same offers in single kWh.
-pub fn compare_curves(heap: Global, groups: u32, most_steps: u32) -> Result<Tally, Failure> {
+pub(crate) fn compare_curves(heap: Global, groups: u32, most_steps: u32) -> Result<Tally, Failure> {
     let mut random = Random::new(2);
     let mut tally = Tally::new();
     for _ in 0..groups {

@@ -51,7 +51,7 @@ fn list_of(heap: Global, steps: &[PlainStep]) -> Result<Vec<Step>, AllocError> {
 }
 
 /// The offer of each unit.
-pub fn offers_of<O: FromSteps>(heap: Global, case: &Case) -> Result<Vec<O>, Failure> {
+pub(crate) fn offers_of<O: FromSteps>(heap: Global, case: &Case) -> Result<Vec<O>, Failure> {
     let mut offers = Vec::new(heap);
     for unit in case.units.iter() {
         offers.push(O::from_steps(heap, unit.steps.as_slice())?)?;

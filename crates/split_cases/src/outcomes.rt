@@ -16,7 +16,7 @@ pub struct Outcome {
 
 impl Outcome {
     /// The outcome of the split over these offers.
-    pub fn of_offers<O: Offer>(
+    pub(crate) fn of_offers<O: Offer>(
         heap: Global,
         case: &Case,
         offers: &[O],

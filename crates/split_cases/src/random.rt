@@ -7,7 +7,7 @@ pub struct Random {
 }
 
 impl Random {
-    pub fn new(seed: u64) -> Random {
+    pub(crate) fn new(seed: u64) -> Random {
         Random { state: seed }
     }
 
@@ -19,7 +19,7 @@ impl Random {
     }
 
     /// A number below `bound`, or 0.
-    pub fn below(&mut self, bound: u32) -> u32
+    pub(crate) fn below(&mut self, bound: u32) -> u32
         ensures { λ r. ⌜ (0 < bound → r < bound) ⌝ }
     {
         if bound == 0 { 0 } else { self.next() % bound }
