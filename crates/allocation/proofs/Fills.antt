@@ -58,11 +58,11 @@ filled-more g n p before left after a b more filled same parted is-more here res
   high = below-more (λ i. b i ≤ upTo g p i) n (λ i lt. omega (arith, same i lt, filled .high i lt)) (omega (arith, cheaper-first (g .price n) (g .limit n) p _ _ (parted .cheaper) (parted .marginal)));
   sum = omega (arith, sum-more n b, sum-more n (below g p), sum-cong n b a same, filled .sum);
   stops = λ i j lt at short. below-more (λ k. i < k → b k ≡ below g p k) n
-    (λ k kt it. same k kt ∙ filled .stops i k it kt (omega (arith, same i (omega arith))))
-    (λ it. omega (arith, filled .short i it (omega (arith, same i it)))) j at lt;
+      (λ k kt it. same k kt ∙ filled .stops i k it kt (omega (arith, same i (omega arith))))
+      (λ it. omega (arith, filled .short i it (omega (arith, same i it)))) j at lt;
   short = below-more (λ i. b i < upTo g p i → after ≡ 0) n
-    (λ i lt short. omega (arith, filled .short i lt (omega (arith, same i lt))))
-    (λ short. omega arith);
+      (λ i lt short. omega (arith, filled .short i lt (omega (arith, same i lt))))
+      (λ short. omega arith);
 }
 
 -- two kWh, one taken and one not
@@ -74,20 +74,24 @@ in-order g n p before after a filled i k j m it jt low high above within =
     let untaken : p ≤ g .price j m = omega (arith, pj .cheaper .dear m (omega (arith, filled .low j jt)) within) in
     ⊎-elim inl
     (λ (ge : g .price j m ≤ g .price i k).
-      let same : g .price i k ≡ g .price j m = omega arith in
-      let past : below g p i < k = after-cheaper pi (omega arith) in
-      let short : a j < upTo g p j = omega (arith, before-dearer pj (omega arith)) in
-      inr (same, ⊎-elim inl
-        (λ (le : j ≤ i). ⊎-elim
+    let same : g .price i k ≡ g .price j m = omega arith in
+    let past : below g p i < k = after-cheaper pi (omega arith) in
+    let short : a j < upTo g p j = omega (arith, before-dearer pj (omega arith)) in
+    inr (
+      same,
+      ⊎-elim inl
+          (λ (le : j ≤ i). ⊎-elim
           (λ (eq : i ≡ j). let fewer : a i ≡ a j = ap a eq in inr (eq, omega arith))
           (λ (other : i ≡ j → ⊥). absurd (omega (arith, filled .stops j i (omega arith) it short)))
           (cases-eq i j))
-        (cases-lt i j)))
+          (cases-lt i j),
+    ))
     (cases-lt (g .price i k) (g .price j m))
   where
     after-cheaper : Parted g p i → p ≤ g .price i k → below g p i < k
     after-cheaper pi dear =
         ⊎-elim (λ lt. lt) (λ (le : k ≤ below g p i). absurd (omega (arith, pi .cheaper .cheap k low le))) (cases-lt (below g p i) k)
+
     before-dearer : Parted g p j → g .price j m ≤ p → m ≤ upTo g p j
     before-dearer pj cheap =
         ⊎-elim (λ (lt : upTo g p j < m). absurd (omega (arith, pj .marginal .dear m lt within))) (λ le. le) (cases-lt (upTo g p j) m)
@@ -100,17 +104,19 @@ filled-merit g share p before after a bounded clearing rest filled =
     let high : sumOf n a ≤ sumOf n (g .limit) = sum-le n a (g .limit) (λ i lt. omega (arith, filled .high i lt, count-le (g .price i) (g .limit i) p)) in
     let sums : sumOf n a + after ≡ share = omega (arith, filled .sum) in
     let all : (0 < after) → sumOf n a ≡ sumOf n (g .limit) = λ left.
-          let full = sum-cong n a (upTo g p) (λ i lt. ⊎-elim (λ short. absurd (omega (arith, filled .short i lt short))) (λ ge. omega (arith, filled .high i lt)) (cases-lt (a i) (upTo g p i))) in
-          ⊎-elim (λ (le : share ≤ sumOf n (upTo g p)). absurd (omega arith))
-          (λ (top : p ≡ 10000000). full ∙ sum-cong n (upTo g p) (g .limit) (λ i lt. count-all (g .price i) (g .limit i) p (λ k. omega (arith, bounded i k))))
-          (clearing .enough) in
+    let full = sum-cong n a (upTo g p) (λ i lt. ⊎-elim (λ short. absurd (omega (arith, filled .short i lt short))) (λ ge. omega (arith, filled .high i lt)) (cases-lt (a i) (upTo g p i))) in
+    ⊎-elim (λ (le : share ≤ sumOf n (upTo g p)). absurd (omega arith))
+    (λ (top : p ≡ 10000000). full ∙ sum-cong n (upTo g p) (g .limit) (λ i lt. count-all (g .price i) (g .limit i) p (λ k. omega (arith, bounded i k))))
+    (clearing .enough) in
     let covered : sumOf n a ≡ min share (sumOf n (g .limit)) =
-          ⊎-elim (λ (left : 0 < after). omega (arith, all left)) (λ (none : after ≤ 0). omega arith) (cases-lt 0 after) in
-    (record {
-      within = λ i lt. omega (arith, filled .high i lt, count-le (g .price i) (g .limit i) p);
-      covered = covered;
-      order = in-order g n p before after a filled;
-    }, omega arith)
+    ⊎-elim (λ (left : 0 < after). omega (arith, all left)) (λ (none : after ≤ 0). omega arith) (cases-lt 0 after) in (
+      record {
+        within = λ i lt. omega (arith, filled .high i lt, count-le (g .price i) (g .limit i) p);
+        covered = covered;
+        order = in-order g n p before after a filled;
+      },
+      omega arith,
+    )
 
 -- the merit order of amounts that are the same for each unit
 pub merit-same : (g : Group) (share : ℕ) (a b : ℕ → ℕ) → ((i : ℕ) → i < g .units → b i ≡ a i) → MeritOrder g share a → MeritOrder g share b

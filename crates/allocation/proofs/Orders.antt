@@ -78,7 +78,7 @@ marginal : (g : Group) (share : ℕ) (a : ℕ → ℕ) → MeritOrder g share a 
 marginal g share a by-a = record {
   taken = λ i k lt low high. omega (arith, highest-over (g .price i) (a i) k low high, largest-over (g .units) (λ j. highest (g .price j) (a j)) i lt);
   untaken = λ j m lt above within. largest-under (g .units) (λ i. highest (g .price i) (a i)) (g .price j m)
-    (λ i at. largest-under (a i) (λ k. g .price i (suc k)) (g .price j m)
+      (λ i at. largest-under (a i) (λ k. g .price i (suc k)) (g .price j m)
       (λ k high. before-cheaper g i (suc k) j m (by-a .order i (suc k) j m at lt (omega arith) high above within)));
 }
 
@@ -122,7 +122,7 @@ nothing-undercuts g share a by-a other within same =
     let p = largest (g .units) (λ i. highest (g .price i) (a i)) in
     let m = marginal g share a by-a in
     let all = trade (g .price) p a other (g .units)
-      (λ i lt. unit-trade (g .price i) p (a i) (other i) (λ k low high. m .taken i k lt low high) (λ k above below. m .untaken i k lt above (omega (arith, within i lt)))) in
+    (λ i lt. unit-trade (g .price i) p (a i) (other i) (λ k low high. m .taken i k lt low high) (λ k above below. m .untaken i k lt above (omega (arith, within i lt)))) in
     let equal : p * total g other ≡ p * total g a = ap (λ t. p * t) same in
     omega arith
 
@@ -137,11 +137,11 @@ sum-skip zero z f le = let here : z ≡ 0 = omega arith in rw here refl
 sum-skip (suc n) z f le =
     ⊎-elim
     (λ (same : z ≡ suc n).
-      let kept = sum-cong (suc n) (λ i. f (skip z i)) f (λ i lt. ap f (cond-true _ i (suc i) (lt-ltb i z (omega arith)))) in
-      omega (arith, kept, ap f same))
+    let kept = sum-cong (suc n) (λ i. f (skip z i)) f (λ i lt. ap f (cond-true _ i (suc i) (lt-ltb i z (omega arith)))) in
+    omega (arith, kept, ap f same))
     (λ (other : z ≡ suc n → ⊥).
-      let moved : f (skip z n) ≡ f (suc n) = ap f (cond-false _ n (suc n) (le-ltb n z (omega arith))) in
-      omega (arith, sum-skip n z f (omega arith), moved))
+    let moved : f (skip z n) ≡ f (suc n) = ap f (cond-false _ n (suc n) (le-ltb n z (omega arith))) in
+    omega (arith, sum-skip n z f (omega arith), moved))
     (cases-eq z (suc n))
 
 -- a total over a group is that over the group without the unit at z, and its own
@@ -158,18 +158,21 @@ before-skip g z i k j m =
   where
     lower : {z i j : ℕ} → ((i < z) × (skip z i ≡ i)) ⊎ ((z ≤ i) × (skip z i ≡ suc i)) → ((j < z) × (skip z j ≡ j)) ⊎ ((z ≤ j) × (skip z j ≡ suc j)) → skip z i < skip z j → i < j
     lower ci cj lt = omega arith
+
     equal : {z i j : ℕ} → ((i < z) × (skip z i ≡ i)) ⊎ ((z ≤ i) × (skip z i ≡ suc i)) → ((j < z) × (skip z j ≡ j)) ⊎ ((z ≤ j) × (skip z j ≡ suc j)) → skip z i ≡ skip z j → i ≡ j
     equal ci cj e = omega arith
 
 idle-units : (g : Group) (share : ℕ) (a : ℕ → ℕ) → MeritOrder g share a → IdleUnitsDropOut g share a
 idle-units g share a by-a z lt idle =
     let none : a z ≡ 0 = omega (arith, by-a .within z lt) in
-    let place : (i : ℕ) → i < g .units - 1 → skip z i < g .units = λ i at. omega (arith, skip-cases z i) in
-    (none, record {
-      within = λ i at. by-a .within (skip z i) (place i at);
-      covered = omega (arith, by-a .covered, total-skip g z a lt, total-skip g z (g .limit) lt);
-      order = λ i k j m at jt low high above below. before-skip g z i k j m (by-a .order (skip z i) k (skip z j) m (place i at) (place j jt) low high above below);
-    })
+    let place : (i : ℕ) → i < g .units - 1 → skip z i < g .units = λ i at. omega (arith, skip-cases z i) in (
+      none,
+      record {
+        within = λ i at. by-a .within (skip z i) (place i at);
+        covered = omega (arith, by-a .covered, total-skip g z a lt, total-skip g z (g .limit) lt);
+        order = λ i k j m at jt low high above below. before-skip g z i k j m (by-a .order (skip z i) k (skip z j) m (place i at) (place j jt) low high above below);
+      },
+    )
 
 -- the whole promise follows from the merit order
 pub split-of : (g : Group) (share : ℕ) (a : ℕ → ℕ) (left : ℕ) → MeritOrder g share a → left ≡ uncovered g share a → ((i : ℕ) → g .units ≤ i → a i ≡ 0) → Split g share a left

@@ -38,7 +38,7 @@ sum-lt zero f h z lt less each = absurd (omega arith)
 sum-lt (suc n) f h z lt less each =
     ⊎-elim
     (λ (same : z ≡ n). let here : f n < h n = subst-lt f h z n same less in
-      omega (arith, sum-le n f h (below-suc (λ i. f i ≤ h i) n each), here))
+    omega (arith, sum-le n f h (below-suc (λ i. f i ≤ h i) n each), here))
     (λ (other : z ≡ n → ⊥). omega (arith, sum-lt n f h z (omega arith) less (below-suc (λ i. f i ≤ h i) n each), each n (omega arith)))
     (cases-eq z n)
   where
@@ -51,12 +51,12 @@ search-more zero f h = inl (λ i lt. absurd (omega arith))
 search-more (suc n) f h =
     ⊎-elim
     (λ each. ⊎-elim
-      (λ (more : h n < f n). inr (n, omega arith, more))
-      (λ (le : f n ≤ h n). inl (λ i lt. ⊎-elim
-        (λ (same : i ≡ n). let e : f n ≤ h n = le in rw same e)
-        (λ (other : i ≡ n → ⊥). each i (omega arith))
-        (cases-eq i n)))
-      (cases-lt (h n) (f n)))
+    (λ (more : h n < f n). inr (n, omega arith, more))
+    (λ (le : f n ≤ h n). inl (λ i lt. ⊎-elim
+    (λ (same : i ≡ n). let e : f n ≤ h n = le in rw same e)
+    (λ (other : i ≡ n → ⊥). each i (omega arith))
+    (cases-eq i n)))
+    (cases-lt (h n) (f n)))
     (λ found. inr (found .0, omega (arith, found .1), found .2))
     (search-more n f h)
 

@@ -55,9 +55,9 @@ order-150 : (i k j m : ℕ) → i < 2 → j < 2 → 1 ≤ k → k ≤ amounts 70
 order-150 i k j m it jt low high above within =
     each-unit (λ i. k ≤ amounts 70 80 i → Before twoUnits i k j m)
     (λ taken. ⊎-elim
-      (λ (past : 50 < k). inr (omega (arith, second 50 300 50 500 k past, dear j m jt above), later past taken j jt above))
-      (λ (le : k ≤ 50). inl (omega (arith, first 50 300 50 500 k le, dear j m jt above)))
-      (cases-lt 50 k))
+    (λ (past : 50 < k). inr (omega (arith, second 50 300 50 500 k past, dear j m jt above), later past taken j jt above))
+    (λ (le : k ≤ 50). inl (omega (arith, first 50 300 50 500 k le, dear j m jt above)))
+    (cases-lt 50 k))
     (λ taken. inl (omega (arith, first 80 400 20 500 k taken, dear j m jt above)))
     i it high
   where

@@ -14,7 +14,14 @@ use curves::Offer;
 
 // Gives each of the first `n` units its kWh cheaper than `price`, and `left` more at that price, unit by unit;
 // answers what is then left.
-fn fill<O: Offer>(offers: &[O], limits: &[u32], n: usize, price: u32, left: u32, amounts: &mut [u32]) -> u32
+fn fill<O: Offer>(
+    offers: &[O],
+    limits: &[u32],
+    n: usize,
+    price: u32,
+    left: u32,
+    amounts: &mut [u32],
+) -> u32
     requires { ⌜ n ≤ length (now offers) ⌝ ∗ ⌜ n ≤ length (now limits) ⌝ ∗ ⌜ n ≤ length (now amounts) ⌝ }
     ensures { λ r. ⌜ Filled (unitsOf (O·Curve .prices) (now (offers .entry)) (now (limits .entry)) n) n price left r (amountAt (now (amounts .exit))) ⌝ }
 {

@@ -70,5 +70,5 @@ lifted-rises (s ∷ ss) last i j le =
     cond-both (leb i w) p (later i) (λ v. v ≤ cond (leb j w) p (later j))
     (λ _. cond-both (leb j w) p (later j) (λ v. p ≤ v) (λ _. omega arith) (λ _. lifted-floor ss p (j - w)))
     (λ past. cond-both (leb j w) p (later j) (λ v. later i ≤ v)
-      (λ here. absurd (let gap : w < i = leb-false i w past in let low : j ≤ w = leb-true j w here in omega arith))
-      (λ _. lifted-rises ss p (i - w) (j - w) (omega arith)))
+    (λ here. absurd (let gap : w < i = leb-false i w past in let low : j ≤ w = leb-true j w here in omega arith))
+    (λ _. lifted-rises ss p (i - w) (j - w) (omega arith)))

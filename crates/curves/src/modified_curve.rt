@@ -18,7 +18,11 @@ pub impl<'a, C: Curve> Curve for Modified<'a, C> as ModifiedCurve {
     ghost bounded = { λ m. modified-bounded (m .free) (C·Curve .prices (now (m .below))) (C·Curve .bounded (now (m .below))) };
 
     fn price(&self, kwh: u32) -> u32 {
-        if read_kwh(kwh) <= self.free { 0 } else { self.below.price(kwh) }
+        if read_kwh(kwh) <= self.free {
+            0
+        } else {
+            self.below.price(kwh)
+        }
     }
 
     fn stretch_end(&self, kwh: u32) -> u32 {

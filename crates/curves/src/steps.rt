@@ -132,7 +132,10 @@ pub(crate) fn level_in(steps: &[Step], reading: Reading, kwh: u32) -> Level
         }
         start += width;
     }
-    Level { price, end: MAX_KWH }
+    Level {
+        price,
+        end: MAX_KWH,
+    }
 }
 
 // The steps in use.
@@ -156,7 +159,10 @@ impl StepTable {
             return Err(CurveRefusal::Price);
         }
         let count = list.len() as u32;
-        Ok(StepTable { count, steps: padded(list) })
+        Ok(StepTable {
+            count,
+            steps: padded(list),
+        })
     }
 
     // The price of a kWh, and how far it goes on.

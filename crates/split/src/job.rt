@@ -84,7 +84,12 @@ impl Job {
 }
 
 // The lines for a share that is split over these units.
-fn answer_text(heap: Global, offers: &[SteppedOffer], limits: &[u32], share: u32) -> Result<String, AllocError>
+fn answer_text(
+    heap: Global,
+    offers: &[SteppedOffer],
+    limits: &[u32],
+    share: u32,
+) -> Result<String, AllocError>
     ensures { λ r. ⌜ made r (λ t. Answer (now (offers .entry)) (now (limits .entry)) share (string-bytes t)) ⌝ }
 {
     let mut amounts = vec![in heap; 0u32; offers.len()]?;

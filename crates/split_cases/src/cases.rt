@@ -26,7 +26,11 @@ pub struct Case {
 
 impl Case {
     /// A group of 1 to 12 units, with 1 to `most_steps` steps each.
-    pub(crate) fn make(heap: Global, random: &mut Random, most_steps: u32) -> Result<Case, AllocError> {
+    pub(crate) fn make(
+        heap: Global,
+        random: &mut Random,
+        most_steps: u32,
+    ) -> Result<Case, AllocError> {
         // The highest price of four steps is 10 times this.
         let price_unit = if random.below(4) == 0 { 1_000_000 } else { 100 };
         let mut units = Vec::new(heap);

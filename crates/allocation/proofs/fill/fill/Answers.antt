@@ -31,9 +31,9 @@ loop-i-again g c =
     let cheaper : c .count-below-cheaper .result ≡ below group p i = count-is _ _ _ _ below-p in
     let marginal : c .count-up-to .result ≡ upTo group p i = count-is _ _ _ _ (c .count-up-to .ensures) in
     let parted : Parted group p i = record {
-          cheaper = at-most-count _ _ _ _ below-p;
-          marginal = at-most-count _ _ _ _ (c .count-up-to .ensures);
-        } in
+      cheaper = at-most-count _ _ _ _ below-p;
+      marginal = at-most-count _ _ _ _ (c .count-up-to .ensures);
+    } in
     filled-more group i p (c .args .left) (c .loop-i .rest) _ (amountAt row) _ (c .min-more .result) (c .loop-i .inv)
     (λ k lt. getD-set-other row i k _ 0 (omega arith))
     parted

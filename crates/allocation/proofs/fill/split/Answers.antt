@@ -25,10 +25,10 @@ returns g c =
     let last = amountAt (c .clear-from .last .amounts) in
     let left = c .fill-uncovered .result in
     let found = filled-merit (units n) share price _ left row
-          (price-bounded (g .O·Curve .prices) 10000000 (g .O·Curve .bounded) (c .args .offers .now)) (c .marginal-price-price .ensures)
-          (omega (arith, c .supply-below .ensures)) (c .fill-uncovered .ensures) in
+    (price-bounded (g .O·Curve .prices) 10000000 (g .O·Curve .bounded) (c .args .offers .now)) (c .marginal-price-price .ensures)
+    (omega (arith, c .supply-below .ensures)) (c .fill-uncovered .ensures) in
     let kept : (i : ℕ) → i < n → last i ≡ row i = λ i lt. c .clear-from .ensures .before i (omega arith) in
     let split = split-of (units n) share last left (merit-same (units n) share row last kept (found .0))
-          (found .1 ∙ ap (λ t. share - t) (sym (sum-cong n last row kept))) (λ i from. c .clear-from .ensures .after i (omega arith)) in
+    (found .1 ∙ ap (λ t. share - t) (sym (sum-cong n last row kept))) (λ i from. c .clear-from .ensures .after i (omega arith)) in
     let whole : n ≡ min (min (min (length (c .args .offers .now)) (length (c .args .limits .now))) 128) (length (c .args .amounts .now)) = omega arith in
     subst (λ m. Split (units m) share last left) whole split

@@ -15,8 +15,11 @@ loop-i-holds g c = (sym (sum-none _), omega arith)
 pub add-total : need.add-total
 add-total g c =
     let energy = readEnergy (amountAt (c .args .amounts .now) (c .loop-i .i)) in
-    omega (arith, c .cost-total .ensures,
-      cost-bound (g .O·Curve .prices (c .index-offers-i .result)) (g .O·Curve .bounded (c .index-offers-i .result)) energy (omega arith))
+    omega (
+      arith,
+      c .cost-total .ensures,
+      cost-bound (g .O·Curve .prices (c .index-offers-i .result)) (g .O·Curve .bounded (c .index-offers-i .result)) energy (omega arith),
+    )
 
 pub loop-i-again : need.loop-i-again
 loop-i-again g c =
@@ -27,6 +30,7 @@ loop-i-again g c =
     let unit = λ (j : ℕ). costOf (priceAt prices offers j) (energy j) in
     let o = c .index-offers-i .result in
     let lt : i < length offers = omega arith in
-    let here : unit i ≡ costOf (prices o) (energy i) = cost-same (priceAt prices offers i) (prices o) (price-at prices offers i o lt (c .index-offers-i .is)) (energy i) in
-    (omega (arith, sum-more i unit, here, c .cost-total .ensures),
-     omega (arith, c .cost-total .ensures, cost-bound (prices o) (g .O·Curve .bounded o) (energy i) (omega arith)))
+    let here : unit i ≡ costOf (prices o) (energy i) = cost-same (priceAt prices offers i) (prices o) (price-at prices offers i o lt (c .index-offers-i .is)) (energy i) in (
+      omega (arith, sum-more i unit, here, c .cost-total .ensures),
+      omega (arith, c .cost-total .ensures, cost-bound (prices o) (g .O·Curve .bounded o) (energy i) (omega arith)),
+    )

@@ -8,8 +8,8 @@ use Rattle.curves.proofs.steps.price_falls.Needs as need
 pub returns-then-step-before : need.returns-then-step-before
 returns-then-step-before c =
     sym (c .loop-step .inv
-      ∙ at-drop-more (priceFalls (c .loop-step .before)) (c .args .list .now) (c .loop-step .step-index) _ (c .loop-step-test .taken)
-      ∙ or-left _ _ (lt-ltb _ _ (c .if-step-before .taken)))
+    ∙ at-drop-more (priceFalls (c .loop-step .before)) (c .args .list .now) (c .loop-step .step-index) _ (c .loop-step-test .taken)
+    ∙ or-left _ _ (lt-ltb _ _ (c .if-step-before .taken)))
 
 pub loop-step-again : need.loop-step-again
 loop-step-again c =

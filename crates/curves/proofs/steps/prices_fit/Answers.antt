@@ -8,8 +8,8 @@ use Rattle.curves.proofs.steps.prices_fit.Needs as need
 pub returns-then-step-gt-MAX-PRICE : need.returns-then-step-gt-MAX-PRICE
 returns-then-step-gt-MAX-PRICE c =
     sym (c .loop-step .inv
-      ∙ at-drop-more pricesFit (c .args .list .now) (c .loop-step .step-index) _ (c .loop-step-test .taken)
-      ∙ and-left _ _ (lt-leb _ _ (c .if-step-gt-MAX-PRICE .taken)))
+    ∙ at-drop-more pricesFit (c .args .list .now) (c .loop-step .step-index) _ (c .loop-step-test .taken)
+    ∙ and-left _ _ (lt-leb _ _ (c .if-step-gt-MAX-PRICE .taken)))
 
 pub loop-step-again : need.loop-step-again
 loop-step-again c =

@@ -11,12 +11,13 @@ use Rattle.curves.proofs.steps.widths_fit.Needs.{then-step-lt1·by·then-step-
 
 pub returns-then-step-lt1 : need.returns-then-step-lt1
 returns-then-step-lt1 c =
-    let narrow : (leb 1 (getD (c .args .list .now) (c .loop-step .step-index) (record { width = 0; price = 0 }) .width) && leb (getD (c .args .list .now) (c .loop-step .step-index) (record { width = 0; price = 0 }) .width) 2000000) ≡ false = elim (c .then-step-lt1 .came)
-          [ then-step-lt1·by·then-step-lt1 w ↦ and-left _ _ (lt-leb _ _ (w .if-step-lt1 .taken))
-          | then-step-lt1·by·else-step-lt1·then-step-gt-MAX-KWH w ↦ and-right _ _ (lt-leb _ _ (w .if-step-gt-MAX-KWH .taken)) ] in
+    let narrow : (leb 1 (getD (c .args .list .now) (c .loop-step .step-index) (record { width = 0; price = 0 }) .width) && leb (getD (c .args .list .now) (c .loop-step .step-index) (record { width = 0; price = 0 }) .width) 2000000) ≡ false = elim (c .then-step-lt1 .came) [
+      | then-step-lt1·by·then-step-lt1 w ↦ and-left _ _ (lt-leb _ _ (w .if-step-lt1 .taken))
+      | then-step-lt1·by·else-step-lt1·then-step-gt-MAX-KWH w ↦ and-right _ _ (lt-leb _ _ (w .if-step-gt-MAX-KWH .taken))
+    ] in
     sym (c .loop-step .inv
-      ∙ at-drop-more widthsFit (c .args .list .now) (c .loop-step .step-index) (record { width = 0; price = 0 }) (c .loop-step-test .taken)
-      ∙ and-left _ _ narrow)
+    ∙ at-drop-more widthsFit (c .args .list .now) (c .loop-step .step-index) (record { width = 0; price = 0 }) (c .loop-step-test .taken)
+    ∙ and-left _ _ narrow)
 
 pub loop-step-again : need.loop-step-again
 loop-step-again c =

@@ -30,6 +30,6 @@ returns c =
       all-units = omega arith;
       split = subst (λ n. Split (groupOf steppedOfferPrice offers limits n) share (amountAt row) left) places (c .split-uncovered .ensures);
       lines = text ∙ ap (λ r. shareText share r cost left) written
-        ∙ ap (λ k. shareText share row k left) (c .total-cost-cost .ensures ∙ ap (rowCost steppedOfferPrice offers) costed);
+          ∙ ap (λ k. shareText share row k left) (c .total-cost-cost .ensures ∙ ap (rowCost steppedOfferPrice offers) costed);
     })
     (c .share-text .ensures)

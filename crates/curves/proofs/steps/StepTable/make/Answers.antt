@@ -19,7 +19,7 @@ returns c =
     let list = c .args .list .now in
     let reading = c .args .reading in
     let good : badSteps reading list ≡ false = or-from _ _ (sym (c .if-is-empty .ensures tt)) (or-from _ _ (le-ltb _ _ (omega arith))
-      (or-from _ _ (not-from-true _ (sym (c .if-not-widths-fit .ensures tt))) (sym (c .if-falls .ensures tt)))) in
+    (or-from _ _ (not-from-true _ (sym (c .if-not-widths-fit .ensures tt))) (sym (c .if-falls .ensures tt)))) in
     let prices : pricesFit list ≡ true = sym (c .if-not-prices-fit .ensures tt) in
     let table = λ (steps : List Step). let t : StepTable = record { count = length list; steps = steps } in t in
     let accepted = λ (steps : List Step). let r : Result StepTable CurveRefusal = Ok (table steps) in r in
