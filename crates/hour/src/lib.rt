@@ -1,0 +1,4 @@
+// The book of one hour: what is entered, read and settled.
+mod entries;
+mod records;
+mod refusals;

@@ -1,0 +1,250 @@
+// The records of the book's table. They are plain, and each array is made by repeating an empty record.
+ghost use mathlib.Core.Path.{_≡_};
+ghost use Rattle.hour.specs.Rows.{newPlant, newCompetitive, newGuaranteed, newBuyer, corrected, correctedGuaranteed, moved, movedGuaranteed};
+use settlement::CompetitiveEnergies;
+use settlement::Control;
+
+pub const PLANTS: usize = 32;
+
+pub const UNITS: usize = 128;
+
+pub const BUYERS: usize = 64;
+
+pub const COMMITMENTS: usize = 768;
+
+/// What settling finds for a plant.
+#[derive(Clone, Copy)]
+pub struct PlantFigures {
+    pub committed: u32,
+    pub allocated: u32,
+    /// Run support.
+    pub run: u32,
+    /// Run and day support.
+    pub support: u32,
+    pub rate: u32,
+    pub cost: u64,
+}
+
+/// What closing and settling find for a unit.
+#[derive(Clone, Copy)]
+pub struct UnitFigures {
+    pub allocated: u32,
+    pub billed: u32,
+    pub payment: u64,
+}
+
+/// What settling finds for a buyer.
+#[derive(Clone, Copy)]
+pub struct BuyerFigures {
+    pub share: u32,
+    pub net: i64,
+}
+
+/// Money in rial beside a unit's payment.
+#[derive(Clone, Copy)]
+pub struct Adjustments {
+    pub opportunity: u32,
+    pub planning: u32,
+    pub cooperation: u32,
+}
+
+#[derive(Clone, Copy)]
+pub struct CompetitiveReading {
+    pub energies: CompetitiveEnergies,
+    pub adjustments: Adjustments,
+    pub control: Control,
+}
+
+#[derive(Clone, Copy)]
+pub struct GuaranteedReading {
+    pub net: u32,
+    pub control: Control,
+}
+
+#[derive(Clone, Copy)]
+pub struct Plant {
+    /// Its loss to the reference point.
+    pub loss: u32,
+    pub figures: PlantFigures,
+}
+
+/// A unit of group 1.
+#[derive(Clone, Copy)]
+pub struct CompetitiveUnit {
+    /// Its plant's number, from 1.
+    pub plant: u32,
+    /// Declared gross energy.
+    pub declared: u32,
+    /// Internal consumption.
+    pub internal: u32,
+    pub aside: bool,
+    pub reading: Option<CompetitiveReading>,
+    pub figures: UnitFigures,
+}
+
+/// A unit of group 2.
+#[derive(Clone, Copy)]
+pub struct GuaranteedUnit {
+    pub plant: u32,
+    pub declared: u32,
+    /// Seasonal gross energy.
+    pub seasonal: u32,
+    pub internal: u32,
+    /// 1 where it feeds the distribution grid.
+    pub feeds: u32,
+    pub aside: bool,
+    pub reading: Option<GuaranteedReading>,
+    pub figures: UnitFigures,
+}
+
+#[derive(Clone, Copy)]
+pub struct Buyer {
+    pub loss: u32,
+    /// Its use, if it was read.
+    pub used: Option<u32>,
+    pub figures: BuyerFigures,
+}
+
+/// Energy sold ahead by a plant to a buyer.
+#[derive(Clone, Copy)]
+pub struct Commitment {
+    pub plant: u32,
+    pub buyer: u32,
+    pub volume: u32,
+}
+
+impl PlantFigures {
+    pub const NONE: PlantFigures = PlantFigures {
+        committed: 0,
+        allocated: 0,
+        run: 0,
+        support: 0,
+        rate: 0,
+        cost: 0,
+    };
+}
+
+impl UnitFigures {
+    pub const NONE: UnitFigures = UnitFigures {
+        allocated: 0,
+        billed: 0,
+        payment: 0,
+    };
+}
+
+impl BuyerFigures {
+    pub const NONE: BuyerFigures = BuyerFigures { share: 0, net: 0 };
+}
+
+impl Plant {
+    /// A plant without figures.
+    pub(crate) fn new(loss: u32) -> Plant
+        ensures { λ r. ⌜ r ≡ newPlant loss ⌝ }
+    {
+        Plant {
+            loss,
+            figures: PlantFigures::NONE,
+        }
+    }
+}
+
+impl CompetitiveUnit {
+    /// A unit that is not aside and was not read.
+    pub(crate) fn new(plant: u32, declared: u32, internal: u32) -> CompetitiveUnit
+        ensures { λ r. ⌜ r ≡ newCompetitive plant declared internal ⌝ }
+    {
+        CompetitiveUnit {
+            plant,
+            declared,
+            internal,
+            aside: false,
+            reading: None,
+            figures: UnitFigures::NONE,
+        }
+    }
+
+    pub(crate) fn correct(&mut self, declared: u32)
+        ensures { λ _. ⌜ now (self .exit) ≡ corrected declared (now (self .entry)) ⌝ }
+    {
+        self.declared = declared;
+    }
+
+    pub(crate) fn move_aside(&mut self, aside: bool)
+        ensures { λ _. ⌜ now (self .exit) ≡ moved aside (now (self .entry)) ⌝ }
+    {
+        self.aside = aside;
+    }
+}
+
+impl GuaranteedUnit {
+    /// A unit that is not aside and was not read.
+    pub(crate) fn new(
+        plant: u32,
+        declared: u32,
+        seasonal: u32,
+        internal: u32,
+        feeds: u32,
+    ) -> GuaranteedUnit
+        ensures { λ r. ⌜ r ≡ newGuaranteed plant declared seasonal internal feeds ⌝ }
+    {
+        GuaranteedUnit {
+            plant,
+            declared,
+            seasonal,
+            internal,
+            feeds,
+            aside: false,
+            reading: None,
+            figures: UnitFigures::NONE,
+        }
+    }
+
+    // The seasonal energy, and so the limit, stays.
+    pub(crate) fn correct(&mut self, declared: u32)
+        ensures { λ _. ⌜ now (self .exit) ≡ correctedGuaranteed declared (now (self .entry)) ⌝ }
+    {
+        self.declared = declared;
+    }
+
+    pub(crate) fn move_aside(&mut self, aside: bool)
+        ensures { λ _. ⌜ now (self .exit) ≡ movedGuaranteed aside (now (self .entry)) ⌝ }
+    {
+        self.aside = aside;
+    }
+}
+
+impl Buyer {
+    /// A buyer whose use was not read.
+    pub(crate) fn new(loss: u32) -> Buyer
+        ensures { λ r. ⌜ r ≡ newBuyer loss ⌝ }
+    {
+        Buyer {
+            loss,
+            used: None,
+            figures: BuyerFigures::NONE,
+        }
+    }
+}
+
+impl Commitment {
+    pub const EMPTY: Commitment = Commitment {
+        plant: 0,
+        buyer: 0,
+        volume: 0,
+    };
+}
+
+/// The rows of each kind, with how many are entered.
+#[derive(Drop)]
+pub struct Table {
+    pub plant_count: usize,
+    pub plants: [Plant; PLANTS],
+    pub competitive_count: usize,
+    pub competitive: [CompetitiveUnit; UNITS],
+    pub guaranteed_count: usize,
+    pub guaranteed: [GuaranteedUnit; UNITS],
+    pub buyer_count: usize,
+    pub buyers: [Buyer; BUYERS],
+    pub commitment_count: usize,
+    pub commitments: [Commitment; COMMITMENTS],
+}

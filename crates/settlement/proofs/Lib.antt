@@ -1,0 +1,3 @@
+pub mod Quotients
+pub mod Running
+pub mod Sums

@@ -1,0 +1,4 @@
+pub mod Reference
+pub mod Shares
+pub mod Payments
+pub mod Support
