@@ -2,3 +2,4 @@ pub mod Refusals
 pub mod Rows
 pub mod Entries
 pub mod Effects
+pub mod Readings

@@ -2,10 +2,12 @@
 use mathlib.Core.Bool.{Bool, false}
 use Prim.Native.Nat.{ℕ}
 use lib.IntN.{pos}
-use Rattle.std.specs.declared.option.Option.the-variants.{None}
+use Rattle.std.specs.declared.option.Option.the-variants.{None, Some}
 use Rattle.hour.specs.declared.records.Buyer.{Buyer}
 use Rattle.hour.specs.declared.records.BuyerFigures.{BuyerFigures}
 use Rattle.hour.specs.declared.records.CompetitiveUnit.{CompetitiveUnit}
+use Rattle.hour.specs.declared.records.CompetitiveReading.{CompetitiveReading}
+use Rattle.hour.specs.declared.records.GuaranteedReading.{GuaranteedReading}
 use Rattle.hour.specs.declared.records.GuaranteedUnit.{GuaranteedUnit}
 use Rattle.hour.specs.declared.records.Plant.{Plant}
 use Rattle.hour.specs.declared.records.PlantFigures.{PlantFigures}
@@ -51,3 +53,31 @@ moved aside u =
 abbrev pub movedGuaranteed : Bool → GuaranteedUnit → GuaranteedUnit
 movedGuaranteed aside u =
     record { plant = u .plant; declared = u .declared; seasonal = u .seasonal; internal = u .internal; feeds = u .feeds; aside = aside; reading = u .reading; figures = u .figures }
+
+-- another reading in place of an earlier one
+abbrev pub readCompetitive : CompetitiveReading → CompetitiveUnit → CompetitiveUnit
+readCompetitive reading u =
+    record {
+      plant = u .plant;
+      declared = u .declared;
+      internal = u .internal;
+      aside = u .aside;
+      reading = Some reading;
+      figures = u .figures;
+    }
+
+abbrev pub readGuaranteed : GuaranteedReading → GuaranteedUnit → GuaranteedUnit
+readGuaranteed reading u =
+    record {
+      plant = u .plant;
+      declared = u .declared;
+      seasonal = u .seasonal;
+      internal = u .internal;
+      feeds = u .feeds;
+      aside = u .aside;
+      reading = Some reading;
+      figures = u .figures;
+    }
+
+abbrev pub readUse : ℕ → Buyer → Buyer
+readUse used b = record { loss = b .loss; used = Some used; figures = b .figures }

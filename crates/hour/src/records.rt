@@ -1,6 +1,6 @@
 // The records of the book's table. They are plain, and each array is made by repeating an empty record.
 ghost use mathlib.Core.Path.{_≡_};
-ghost use Rattle.hour.specs.Rows.{newPlant, newCompetitive, newGuaranteed, newBuyer, corrected, correctedGuaranteed, moved, movedGuaranteed};
+ghost use Rattle.hour.specs.Rows.{newPlant, newCompetitive, newGuaranteed, newBuyer, corrected, correctedGuaranteed, moved, movedGuaranteed, readCompetitive, readGuaranteed, readUse};
 use settlement::CompetitiveEnergies;
 use settlement::Control;
 
@@ -169,6 +169,12 @@ impl CompetitiveUnit {
         self.declared = declared;
     }
 
+    pub(crate) fn read(&mut self, reading: CompetitiveReading)
+        ensures { λ _. ⌜ now (self .exit) ≡ readCompetitive reading (now (self .entry)) ⌝ }
+    {
+        self.reading = Some(reading);
+    }
+
     pub(crate) fn move_aside(&mut self, aside: bool)
         ensures { λ _. ⌜ now (self .exit) ≡ moved aside (now (self .entry)) ⌝ }
     {
@@ -206,6 +212,12 @@ impl GuaranteedUnit {
         self.declared = declared;
     }
 
+    pub(crate) fn read(&mut self, reading: GuaranteedReading)
+        ensures { λ _. ⌜ now (self .exit) ≡ readGuaranteed reading (now (self .entry)) ⌝ }
+    {
+        self.reading = Some(reading);
+    }
+
     pub(crate) fn move_aside(&mut self, aside: bool)
         ensures { λ _. ⌜ now (self .exit) ≡ movedGuaranteed aside (now (self .entry)) ⌝ }
     {
@@ -223,6 +235,12 @@ impl Buyer {
             used: None,
             figures: BuyerFigures::NONE,
         }
+    }
+
+    pub(crate) fn read(&mut self, used: u32)
+        ensures { λ _. ⌜ now (self .exit) ≡ readUse used (now (self .entry)) ⌝ }
+    {
+        self.used = Some(used);
     }
 }
 
