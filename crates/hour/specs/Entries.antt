@@ -85,8 +85,8 @@ soldBy plant (c ∷ cs) = cond (eqb (c .plant) plant) (c .volume) 0 + soldBy pla
 abbrev pub viewOf : Table → View
 viewOf t = record {
   plants = min (t .«plant_count») 32;
-  competitive = min (t .«competitive_count») 128;
-  guaranteed = min (t .«guaranteed_count») 128;
+  competitive = min (t .competitive .count) 128;
+  guaranteed = min (t .guaranteed .count) 128;
   buyers = min (t .«buyer_count») 64;
   commitments = min (t .«commitment_count») 768;
   sold = λ plant. soldBy plant (take (min (t .«commitment_count») 768) (t .commitments));

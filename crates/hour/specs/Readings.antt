@@ -10,8 +10,8 @@ use Rattle.std.specs.declared.result.Result.the-variants.{Ok, Err}
 use Rattle.settlement.specs.declared.readings.CompetitiveEnergies.{CompetitiveEnergies}
 use Rattle.settlement.specs.declared.readings.Control.{Control}
 use Rattle.hour.specs.Entries.{View, viewOf, lacks}
-use Rattle.hour.specs.Effects.{unless, changeCompetitive, changeGuaranteed, withBuyers}
-use Rattle.hour.specs.Rows.{newBuyer, readCompetitive, readGuaranteed, readUse}
+use Rattle.hour.specs.Effects.{unless, withCompetitiveReadings, withGuaranteedReadings, withBuyers}
+use Rattle.hour.specs.Rows.{newBuyer, readUse}
 use Rattle.hour.specs.declared.readings.Reading.{Reading}
 use Rattle.hour.specs.declared.readings.Reading.the-variants.{Competitive, Guaranteed, Use}
 use Rattle.hour.specs.declared.records.Adjustments.{Adjustments}
@@ -61,8 +61,8 @@ readingRows v (Use buyer used) = useRows (v .buyers) buyer used
 
 -- an accepted reading's change of the table: one row, and no other
 abbrev pub appliedReading : Reading → Table → Table
-appliedReading (Competitive unit reading) t = changeCompetitive (readCompetitive reading) unit t
-appliedReading (Guaranteed unit reading) t = changeGuaranteed (readGuaranteed reading) unit t
+appliedReading (Competitive unit reading) t = withCompetitiveReadings (set (t .«competitive_readings») (unit - 1) (Some reading)) t
+appliedReading (Guaranteed unit reading) t = withGuaranteedReadings (set (t .«guaranteed_readings») (unit - 1) (Some reading)) t
 appliedReading (Use buyer used) t =
     withBuyers (t .«buyer_count») (set (t .buyers) (buyer - 1) (readUse used (getD (t .buyers) (buyer - 1) (newBuyer 0)))) t
 

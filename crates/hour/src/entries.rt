@@ -10,12 +10,11 @@ use crate::records::BUYERS;
 use crate::records::Buyer;
 use crate::records::COMMITMENTS;
 use crate::records::Commitment;
-use crate::records::CompetitiveUnit;
-use crate::records::GuaranteedUnit;
 use crate::records::PLANTS;
 use crate::records::Plant;
 use crate::records::Table;
 use crate::records::UNITS;
+use crate::records::UnitRecord;
 use crate::refusals::BookRefusal;
 
 const MAX_PERCENTAGE: u32 = 2_000;
@@ -106,8 +105,8 @@ impl Table {
         ensures fits { λ r. ⌜ (r ≡ false → (1 ≤ unit) × (unit ≤ 128)) ⌝ }
     {
         match group {
-            1 => unit == 0 || unit as usize > self.competitive_count.min(UNITS),
-            2 => unit == 0 || unit as usize > self.guaranteed_count.min(UNITS),
+            1 => unit == 0 || unit as usize > self.competitive.count.min(UNITS),
+            2 => unit == 0 || unit as usize > self.guaranteed.count.min(UNITS),
             _ => true,
         }
     }
@@ -122,12 +121,12 @@ impl Table {
 
     fn competitive_refusal(&self, plant: u32, declared: u32, internal: u32) -> Option<BookRefusal>
         ensures value { λ r. ⌜ r ≡ competitiveRows (viewOf (now (self .entry))) plant declared internal ⌝ }
-        ensures fits { λ r. ⌜ Cases r (now (self .entry) .«competitive_count» < 128) (λ _. Unit {0}) ⌝ }
+        ensures fits { λ r. ⌜ Cases r (now (self .entry) .competitive .count < 128) (λ _. Unit {0}) ⌝ }
     {
         if self.lacks_plant(plant) {
             return Some(BookRefusal::NoPlant);
         }
-        if self.competitive_count >= UNITS {
+        if self.competitive.count >= UNITS {
             return Some(BookRefusal::Full);
         }
         if internal > MAX_PERCENTAGE {
@@ -170,12 +169,12 @@ impl Table {
         feeds: u32,
     ) -> Option<BookRefusal>
         ensures value { λ r. ⌜ r ≡ guaranteedRows (viewOf (now (self .entry))) plant declared seasonal internal feeds ⌝ }
-        ensures fits { λ r. ⌜ Cases r (now (self .entry) .«guaranteed_count» < 128) (λ _. Unit {0}) ⌝ }
+        ensures fits { λ r. ⌜ Cases r (now (self .entry) .guaranteed .count < 128) (λ _. Unit {0}) ⌝ }
     {
         if self.lacks_plant(plant) {
             return Some(BookRefusal::NoPlant);
         }
-        if self.guaranteed_count >= UNITS {
+        if self.guaranteed.count >= UNITS {
             return Some(BookRefusal::Full);
         }
         if internal > MAX_PERCENTAGE {
@@ -288,10 +287,7 @@ impl Table {
         if let Some(refusal) = self.competitive_refusal(plant, declared, internal) {
             return Err(refusal);
         }
-        let count = self.competitive_count;
-        self.competitive[count] = CompetitiveUnit::new(plant, declared, internal);
-        self.competitive_count = count + 1;
-        Ok(count as u32 + 1)
+        Ok(self.competitive.add(UnitRecord::new(plant, declared, None, internal, 0)))
     }
 
     fn add_guaranteed(
@@ -308,10 +304,7 @@ impl Table {
         if let Some(refusal) = self.guaranteed_refusal(plant, declared, seasonal, internal, feeds) {
             return Err(refusal);
         }
-        let count = self.guaranteed_count;
-        self.guaranteed[count] = GuaranteedUnit::new(plant, declared, seasonal, internal, feeds);
-        self.guaranteed_count = count + 1;
-        Ok(count as u32 + 1)
+        Ok(self.guaranteed.add(UnitRecord::new(plant, declared, Some(seasonal), internal, feeds)))
     }
 
     fn add_buyer(&mut self, loss: u32) -> Result<u32, BookRefusal>
@@ -351,12 +344,11 @@ impl Table {
         if let Some(refusal) = self.correct_refusal(group, unit, declared) {
             return Err(refusal);
         }
-        let i = unit as usize - 1;
         if group == 1 {
-            self.competitive[i].correct(declared);
+            self.competitive.correct(unit, declared);
             return Ok(unit);
         }
-        self.guaranteed[i].correct(declared);
+        self.guaranteed.correct(unit, declared);
         Ok(unit)
     }
 
@@ -367,12 +359,11 @@ impl Table {
         if let Some(refusal) = self.unit_refusal(group, unit) {
             return Err(refusal);
         }
-        let i = unit as usize - 1;
         if group == 1 {
-            self.competitive[i].move_aside(true);
+            self.competitive.move_aside(unit, true);
             return Ok(unit);
         }
-        self.guaranteed[i].move_aside(true);
+        self.guaranteed.move_aside(unit, true);
         Ok(unit)
     }
 
@@ -383,12 +374,11 @@ impl Table {
         if let Some(refusal) = self.unit_refusal(group, unit) {
             return Err(refusal);
         }
-        let i = unit as usize - 1;
         if group == 1 {
-            self.competitive[i].move_aside(false);
+            self.competitive.move_aside(unit, false);
             return Ok(unit);
         }
-        self.guaranteed[i].move_aside(false);
+        self.guaranteed.move_aside(unit, false);
         Ok(unit)
     }
 

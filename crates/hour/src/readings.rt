@@ -108,10 +108,10 @@ impl Table {
         ensures answer { λ r. ⌜ r ≡ readingAnswer (Reading.Competitive unit reading) (now (self .entry)) ⌝ }
         ensures after { λ _. ⌜ now (self .exit) ≡ afterReading (Reading.Competitive unit reading) (now (self .entry)) ⌝ }
     {
-        if let Some(refusal) = competitive_refusal(self.competitive_count, unit, &reading) {
+        if let Some(refusal) = competitive_refusal(self.competitive.count, unit, &reading) {
             return Err(refusal);
         }
-        self.competitive[unit as usize - 1].read(reading);
+        self.competitive_readings[unit as usize - 1] = Some(reading);
         Ok(unit)
     }
 
@@ -119,10 +119,10 @@ impl Table {
         ensures answer { λ r. ⌜ r ≡ readingAnswer (Reading.Guaranteed unit reading) (now (self .entry)) ⌝ }
         ensures after { λ _. ⌜ now (self .exit) ≡ afterReading (Reading.Guaranteed unit reading) (now (self .entry)) ⌝ }
     {
-        if let Some(refusal) = guaranteed_refusal(self.guaranteed_count, unit, &reading) {
+        if let Some(refusal) = guaranteed_refusal(self.guaranteed.count, unit, &reading) {
             return Err(refusal);
         }
-        self.guaranteed[unit as usize - 1].read(reading);
+        self.guaranteed_readings[unit as usize - 1] = Some(reading);
         Ok(unit)
     }
 

@@ -1,6 +1,7 @@
 // The records of the book's table. They are plain, and each array is made by repeating an empty record.
 ghost use mathlib.Core.Path.{_≡_};
-ghost use Rattle.hour.specs.Rows.{newPlant, newCompetitive, newGuaranteed, newBuyer, corrected, correctedGuaranteed, moved, movedGuaranteed, readCompetitive, readGuaranteed, readUse};
+ghost use Prim.Native.Nat.{_+_, _≤_, _<_};
+ghost use Rattle.hour.specs.Rows.{newPlant, newUnit, newBuyer, corrected, moved, added, changed, readUse};
 use settlement::CompetitiveEnergies;
 use settlement::Control;
 
@@ -68,32 +69,20 @@ pub struct Plant {
     pub figures: PlantFigures,
 }
 
-/// A unit of group 1.
+/// A unit of either group.
 #[derive(Clone, Copy)]
-pub struct CompetitiveUnit {
+pub struct UnitRecord {
     /// Its plant's number, from 1.
     pub plant: u32,
     /// Declared gross energy.
     pub declared: u32,
+    /// Seasonal gross energy of a guaranteed unit; a competitive unit has none.
+    pub seasonal: Option<u32>,
     /// Internal consumption.
-    pub internal: u32,
-    pub aside: bool,
-    pub reading: Option<CompetitiveReading>,
-    pub figures: UnitFigures,
-}
-
-/// A unit of group 2.
-#[derive(Clone, Copy)]
-pub struct GuaranteedUnit {
-    pub plant: u32,
-    pub declared: u32,
-    /// Seasonal gross energy.
-    pub seasonal: u32,
     pub internal: u32,
     /// 1 where it feeds the distribution grid.
     pub feeds: u32,
     pub aside: bool,
-    pub reading: Option<GuaranteedReading>,
     pub figures: UnitFigures,
 }
 
@@ -148,80 +137,54 @@ impl Plant {
     }
 }
 
-impl CompetitiveUnit {
-    /// A unit that is not aside and was not read.
-    pub(crate) fn new(plant: u32, declared: u32, internal: u32) -> CompetitiveUnit
-        ensures { λ r. ⌜ r ≡ newCompetitive plant declared internal ⌝ }
+impl UnitRecord {
+    /// A unit that is not aside.
+    pub(crate) fn new(plant: u32, declared: u32, seasonal: Option<u32>, internal: u32, feeds: u32) -> UnitRecord
+        ensures { λ r. ⌜ r ≡ newUnit plant declared seasonal internal feeds ⌝ }
     {
-        CompetitiveUnit {
-            plant,
-            declared,
-            internal,
-            aside: false,
-            reading: None,
-            figures: UnitFigures::NONE,
-        }
+        UnitRecord { plant, declared, seasonal, internal, feeds, aside: false, figures: UnitFigures::NONE }
     }
 
-    pub(crate) fn correct(&mut self, declared: u32)
+    // The seasonal energy stays, and with it a guaranteed unit's limit.
+    fn correct(&mut self, declared: u32)
         ensures { λ _. ⌜ now (self .exit) ≡ corrected declared (now (self .entry)) ⌝ }
     {
         self.declared = declared;
     }
 
-    pub(crate) fn read(&mut self, reading: CompetitiveReading)
-        ensures { λ _. ⌜ now (self .exit) ≡ readCompetitive reading (now (self .entry)) ⌝ }
-    {
-        self.reading = Some(reading);
-    }
-
-    pub(crate) fn move_aside(&mut self, aside: bool)
+    fn move_aside(&mut self, aside: bool)
         ensures { λ _. ⌜ now (self .exit) ≡ moved aside (now (self .entry)) ⌝ }
     {
         self.aside = aside;
     }
 }
 
-impl GuaranteedUnit {
-    /// A unit that is not aside and was not read.
-    pub(crate) fn new(
-        plant: u32,
-        declared: u32,
-        seasonal: u32,
-        internal: u32,
-        feeds: u32,
-    ) -> GuaranteedUnit
-        ensures { λ r. ⌜ r ≡ newGuaranteed plant declared seasonal internal feeds ⌝ }
+impl UnitTable {
+    pub(crate) fn add(&mut self, unit: UnitRecord) -> u32
+        requires { ⌜ now self .count < 128 ⌝ }
+        ensures number { λ r. ⌜ r ≡ now (self .entry) .count + 1 ⌝ }
+        ensures after { λ _. ⌜ now (self .exit) ≡ added unit (now (self .entry)) ⌝ }
     {
-        GuaranteedUnit {
-            plant,
-            declared,
-            seasonal,
-            internal,
-            feeds,
-            aside: false,
-            reading: None,
-            figures: UnitFigures::NONE,
-        }
+        let count = self.count;
+        self.units[count] = unit;
+        self.count = count + 1;
+        count as u32 + 1
     }
 
-    // The seasonal energy, and so the limit, stays.
-    pub(crate) fn correct(&mut self, declared: u32)
-        ensures { λ _. ⌜ now (self .exit) ≡ correctedGuaranteed declared (now (self .entry)) ⌝ }
+    /// Changes the declared energy of one unit, and nothing else.
+    pub(crate) fn correct(&mut self, unit: u32, declared: u32)
+        requires { ⌜ 1 ≤ unit ⌝ ∗ ⌜ unit ≤ 128 ⌝ }
+        ensures { λ _. ⌜ now (self .exit) ≡ changed (corrected declared) unit (now (self .entry)) ⌝ }
     {
-        self.declared = declared;
+        self.units[unit as usize - 1].correct(declared);
     }
 
-    pub(crate) fn read(&mut self, reading: GuaranteedReading)
-        ensures { λ _. ⌜ now (self .exit) ≡ readGuaranteed reading (now (self .entry)) ⌝ }
+    /// Puts one unit aside or takes it back, and changes nothing else.
+    pub(crate) fn move_aside(&mut self, unit: u32, aside: bool)
+        requires { ⌜ 1 ≤ unit ⌝ ∗ ⌜ unit ≤ 128 ⌝ }
+        ensures { λ _. ⌜ now (self .exit) ≡ changed (moved aside) unit (now (self .entry)) ⌝ }
     {
-        self.reading = Some(reading);
-    }
-
-    pub(crate) fn move_aside(&mut self, aside: bool)
-        ensures { λ _. ⌜ now (self .exit) ≡ movedGuaranteed aside (now (self .entry)) ⌝ }
-    {
-        self.aside = aside;
+        self.units[unit as usize - 1].move_aside(aside);
     }
 }
 
@@ -252,15 +215,22 @@ impl Commitment {
     };
 }
 
+/// The units of one group, over all plants.
+#[derive(Clone, Copy)]
+pub struct UnitTable {
+    pub count: usize,
+    pub units: [UnitRecord; UNITS],
+}
+
 /// The rows of each kind, with how many are entered.
 #[derive(Drop)]
 pub struct Table {
     pub plant_count: usize,
     pub plants: [Plant; PLANTS],
-    pub competitive_count: usize,
-    pub competitive: [CompetitiveUnit; UNITS],
-    pub guaranteed_count: usize,
-    pub guaranteed: [GuaranteedUnit; UNITS],
+    pub competitive: UnitTable,
+    pub guaranteed: UnitTable,
+    pub competitive_readings: [Option<CompetitiveReading>; UNITS],
+    pub guaranteed_readings: [Option<GuaranteedReading>; UNITS],
     pub buyer_count: usize,
     pub buyers: [Buyer; BUYERS],
     pub commitment_count: usize,
