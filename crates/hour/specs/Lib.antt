@@ -3,3 +3,4 @@ pub mod Rows
 pub mod Entries
 pub mod Effects
 pub mod Readings
+pub mod Closing

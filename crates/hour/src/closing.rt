@@ -1,0 +1,104 @@
+// Closing: the split of each plant's commitments over its units.
+ghost use mathlib.Core.Path.{_≡_};
+ghost use Prim.Native.Nat.{ℕ, _≤_, _<_, _*_, min};
+ghost use lib.ListN.{length, getD};
+ghost use Rattle.std.specs.declared.option.Option.the-variants.{None};
+ghost use Rattle.std.specs.shelf.Lists.{sumBy};
+ghost use Rattle.hour.specs.Closing.{counts, limitIn, declaredIn, allocatedTo, GroupClosed};
+ghost use Rattle.hour.specs.Rows.{newUnit};
+use crate::records::UNITS;
+use crate::records::UnitRecord;
+use crate::records::UnitTable;
+use allocation::split;
+use curves::MAX_KWH;
+use curves::Offer;
+use settlement::limit;
+
+impl UnitRecord {
+    // Whether it is a unit of the plant that is not put aside.
+    fn counts_for(&self, plant: u32) -> bool
+        ensures { λ r. ⌜ r ≡ counts plant (now (self .entry)) ⌝ }
+    {
+        self.plant == plant && !self.aside
+    }
+
+    // Its limit in the plant's group.
+    fn limit_in(&self, plant: u32, loss: u32) -> u32
+        ensures { λ r. ⌜ r ≡ limitIn plant loss (now (self .entry)) ⌝ }
+    {
+        if !self.counts_for(plant) {
+            return 0;
+        }
+        limit(self.seasonal.unwrap_or(self.declared), self.internal, loss)
+    }
+
+    // Its declared energy in the plant's group.
+    fn declared_in(&self, plant: u32) -> u32
+        ensures value { λ r. ⌜ r ≡ declaredIn plant (now (self .entry)) ⌝ }
+        ensures bound { λ r. ⌜ r ≤ 2000000 ⌝ }
+    {
+        if !self.counts_for(plant) {
+            return 0;
+        }
+        self.declared.min(MAX_KWH)
+    }
+
+    // Takes its amount if it is the plant's.
+    fn allocate(&mut self, plant: u32, amount: u32)
+        ensures { λ _. ⌜ now (self .exit) ≡ allocatedTo plant amount (now (self .entry)) ⌝ }
+    {
+        if self.plant == plant {
+            self.figures.allocated = amount;
+        }
+    }
+}
+
+// Writes the limit of each of the first `n` units in the plant's group.
+fn write_limits(units: &[UnitRecord], n: usize, plant: u32, loss: u32, limits: &mut [u32])
+    requires { ⌜ n ≤ length (now units) ⌝ ∗ ⌜ n ≤ length (now limits) ⌝ }
+    ensures entered { λ _. ⌜ ((k : ℕ) → k < n → getD (now (limits .exit)) k 0 ≡ limitIn plant loss (getD (now (units .entry)) k (newUnit 0 0 None 0 0))) ⌝ }
+    ensures others { λ _. ⌜ ((k : ℕ) → n ≤ k → getD (now (limits .exit)) k 0 ≡ getD (now (limits .entry)) k 0) ⌝ }
+{
+    for i in 0..n {
+        limits[i] = units[i].limit_in(plant, loss);
+    }
+}
+
+// The declared energy of the plant's group.
+fn declared_by(units: &[UnitRecord], plant: u32) -> u32
+    requires { ⌜ length (now units) ≤ 128 ⌝ }
+    ensures value { λ r. ⌜ r ≡ sumBy (declaredIn plant) (now (units .entry)) ⌝ }
+    ensures bound { λ r. ⌜ r ≤ 128 * 2000000 ⌝ }
+{
+    let mut sum = 0u32;
+    for unit in units {
+        sum += unit.declared_in(plant);
+    }
+    sum
+}
+
+// Gives each of the first `n` units its amount, if it is the plant's.
+fn allocate_all(units: &mut [UnitRecord], n: usize, plant: u32, amounts: &[u32])
+    requires { ⌜ n ≤ length (now units) ⌝ ∗ ⌜ n ≤ length (now amounts) ⌝ }
+    ensures entered { λ _. ⌜ ((k : ℕ) → k < n → getD (now (units .exit)) k (newUnit 0 0 None 0 0) ≡ allocatedTo plant (getD (now (amounts .entry)) k 0) (getD (now (units .entry)) k (newUnit 0 0 None 0 0))) ⌝ }
+    ensures others { λ _. ⌜ ((k : ℕ) → n ≤ k → getD (now (units .exit)) k (newUnit 0 0 None 0 0) ≡ getD (now (units .entry)) k (newUnit 0 0 None 0 0)) ⌝ }
+{
+    for i in 0..n {
+        units[i].allocate(plant, amounts[i]);
+    }
+}
+
+impl UnitTable {
+    // Splits a share over the plant's units of this group, and answers what stays uncovered.
+    fn close<O: Offer>(&mut self, offers: &[O], plant: u32, loss: u32, share: u32) -> u32
+        ensures { λ r. ⌜ GroupClosed (O·Curve .prices) (now (offers .entry)) plant loss share (now (self .entry)) (now (self .exit)) r ⌝ }
+    {
+        let n = self.count.min(UNITS);
+        let mut limits = [0u32; UNITS];
+        write_limits(&self.units, n, plant, loss, &mut limits);
+        let mut amounts = [0u32; UNITS];
+        let uncovered = split(offers, &limits, share, &mut amounts);
+        allocate_all(&mut self.units, n, plant, &amounts);
+        uncovered
+    }
+}
