@@ -2,16 +2,22 @@
 use mathlib.Core.Bool.{Bool, cond, not, _&&_}
 use mathlib.Core.List.{List}
 use mathlib.Core.Path.{_≡_}
-use Prim.Native.Nat.{ℕ, _≤_, _<_, min}
+use Prim.Native.Nat.{ℕ, _+_, _-_, _≤_, _<_, min}
 use lib.Dec.{eqb, ltb}
-use lib.ListN.{length, getD}
+use lib.ListN.{length, getD, set, take}
 use Rattle.std.specs.Options.{valueOr}
 use Rattle.std.specs.declared.option.Option.the-variants.{None}
 use Rattle.allocation.specs.Groups.{Group, priceAt}
 use Rattle.allocation.specs.Laws.{Split}
 use Rattle.curves.specs.Limits.{readEnergy}
 use Rattle.settlement.specs.Reference.{netOf}
-use Rattle.hour.specs.Rows.{newUnit}
+use Rattle.settlement.specs.Shares.{groupOneShare}
+use Rattle.std.specs.shelf.Lists.{sumBy}
+use Rattle.hour.specs.Effects.{withPlants, withCompetitive, withGuaranteed}
+use Rattle.hour.specs.Entries.{viewOf}
+use Rattle.hour.specs.Rows.{newUnit, newPlant, closedFigures}
+use Rattle.hour.specs.declared.records.Plant.{Plant}
+use Rattle.hour.specs.declared.records.Table.{Table}
 use Rattle.hour.specs.declared.records.UnitRecord.{UnitRecord}
 use Rattle.hour.specs.declared.records.UnitTable.{UnitTable}
 
@@ -64,3 +70,35 @@ pub record GroupClosed {O : Type 0} (prices : O → ℕ → ℕ) (offers : List 
   pub count : after .count ≡ before .count
   pub entered : (i : ℕ) → i < min (before .count) 128 → unitAt after i ≡ allocatedTo plant (amount i) (unitAt before i)
   pub others : (i : ℕ) → min (before .count) 128 ≤ i → unitAt after i ≡ unitAt before i
+
+-- a plant's commitments; a sum over 20,000,000 is read as 20,000,000
+abbrev pub committedBy : ℕ → Table → ℕ
+committedBy plant t = min (viewOf t .sold plant) 20000000
+
+-- the declared energy of a plant's group: its units with an offer row that are not put aside
+abbrev pub declaredBy : ℕ → ℕ → UnitTable → ℕ
+declaredBy plant rows t = sumBy (declaredIn plant) (take (min (min (t .count) 128) rows) (t .units))
+
+-- the shares of a plant's groups, with so many offer rows in each
+abbrev pub shareOne : ℕ → ℕ → ℕ → Table → ℕ
+shareOne plant rows1 rows2 t =
+    groupOneShare (committedBy plant t) (declaredBy plant rows1 (t .competitive)) (declaredBy plant rows2 (t .guaranteed))
+
+abbrev pub shareTwo : ℕ → ℕ → ℕ → Table → ℕ
+shareTwo plant rows1 rows2 t = committedBy plant t - shareOne plant rows1 rows2 t
+
+-- a plant with the figures of closing
+abbrev pub closedPlant : ℕ → ℕ → Plant → Plant
+closedPlant committed run p =
+    record { loss = p .loss; figures = closedFigures committed run }
+
+abbrev pub plantAt : Table → ℕ → Plant
+plantAt t place = getD (t .plants) place (newPlant 0)
+
+-- Both groups of the plant at a place are closed, and its figures are written; nothing else changes.
+pub record PlantClosed {O P : Type 0} (prices1 : O → ℕ → ℕ) (offers1 : List O) (prices2 : P → ℕ → ℕ) (offers2 : List P) (place : ℕ) (before after : Table) : Type 0 where
+  pub left1 : ℕ
+  pub left2 : ℕ
+  pub one : GroupClosed prices1 offers1 (place + 1) (plantAt before place .loss) (shareOne (place + 1) (length offers1) (length offers2) before) (before .competitive) (after .competitive) left1
+  pub two : GroupClosed prices2 offers2 (place + 1) (plantAt before place .loss) (shareTwo (place + 1) (length offers1) (length offers2) before) (before .guaranteed) (after .guaranteed) left2
+  pub rest : after ≡ withPlants (before .«plant_count») (set (before .plants) place (closedPlant (committedBy (place + 1) before) (left1 + left2) (plantAt before place))) (withCompetitive (after .competitive) (withGuaranteed (after .guaranteed) before))

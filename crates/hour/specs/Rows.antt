@@ -16,6 +16,11 @@ use Rattle.hour.specs.declared.records.UnitTable.{UnitTable}
 abbrev pub noPlantFigures : PlantFigures
 noPlantFigures = record { committed = 0; allocated = 0; run = 0; support = 0; rate = 0; cost = 0 }
 
+-- the figures of closing: what is not run support is allocated
+abbrev pub closedFigures : ℕ → ℕ → PlantFigures
+closedFigures committed run =
+    record { committed = committed; allocated = committed - run; run = run; support = 0; rate = 0; cost = 0 }
+
 abbrev pub noUnitFigures : UnitFigures
 noUnitFigures = record { allocated = 0; billed = 0; payment = 0 }
 

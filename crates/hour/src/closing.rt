@@ -4,15 +4,22 @@ ghost use Prim.Native.Nat.{ℕ, _≤_, _<_, _*_, min};
 ghost use lib.ListN.{length, getD};
 ghost use Rattle.std.specs.declared.option.Option.the-variants.{None};
 ghost use Rattle.std.specs.shelf.Lists.{sumBy};
-ghost use Rattle.hour.specs.Closing.{counts, limitIn, declaredIn, allocatedTo, GroupClosed};
+ghost use Rattle.hour.specs.Closing.{counts, limitIn, declaredIn, allocatedTo, GroupClosed, declaredBy, PlantClosed};
 ghost use Rattle.hour.specs.Rows.{newUnit};
+use crate::records::Plant;
+use crate::records::PlantFigures;
+use crate::records::Table;
 use crate::records::UNITS;
 use crate::records::UnitRecord;
 use crate::records::UnitTable;
 use allocation::split;
 use curves::MAX_KWH;
 use curves::Offer;
+use settlement::group_one_share;
 use settlement::limit;
+
+// The most that a plant sells.
+const MAX_VOLUME: u64 = 20_000_000;
 
 impl UnitRecord {
     // Whether it is a unit of the plant that is not put aside.
@@ -100,5 +107,32 @@ impl UnitTable {
         let uncovered = split(offers, &limits, share, &mut amounts);
         allocate_all(&mut self.units, n, plant, &amounts);
         uncovered
+    }
+
+    // The declared energy of the plant's units that have an offer row.
+    fn declared(&self, plant: u32, rows: usize) -> u32
+        ensures { λ r. ⌜ r ≡ declaredBy plant rows (now (self .entry)) ⌝ }
+    {
+        let n = self.count.min(UNITS).min(rows);
+        declared_by(&self.units[0..n], plant)
+    }
+}
+
+impl Table {
+    // Closes both groups of the plant at a place, and writes its figures.
+    fn close_plant<O: Offer, G: Offer>(&mut self, place: usize, offers: &[O], guaranteed: &[G])
+        requires { ⌜ place < 32 ⌝ }
+        ensures { λ _. ⌜ PlantClosed (O·Curve .prices) (now (offers .entry)) (G·Curve .prices) (now (guaranteed .entry)) place (now (self .entry)) (now (self .exit)) ⌝ }
+    {
+        let plant = place as u32 + 1;
+        let loss = self.plants[place].loss;
+        let committed = self.sold(plant).min(MAX_VOLUME) as u32;
+        let gross1 = self.competitive.declared(plant, offers.len());
+        let gross2 = self.guaranteed.declared(plant, guaranteed.len());
+        let share = group_one_share(committed, gross1, gross2);
+        let left1 = self.competitive.close(offers, plant, loss, share);
+        let left2 = self.guaranteed.close(guaranteed, plant, loss, committed - share);
+        let figures = PlantFigures::closed(committed, left1 + left2);
+        self.plants[place] = Plant { loss, figures };
     }
 }

@@ -1,7 +1,7 @@
 // The records of the book's table. They are plain, and each array is made by repeating an empty record.
 ghost use mathlib.Core.Path.{_≡_};
 ghost use Prim.Native.Nat.{_+_, _≤_, _<_};
-ghost use Rattle.hour.specs.Rows.{newPlant, newUnit, newBuyer, corrected, moved, added, changed, readUse};
+ghost use Rattle.hour.specs.Rows.{closedFigures, newPlant, newUnit, newBuyer, corrected, moved, added, changed, readUse};
 use settlement::CompetitiveEnergies;
 use settlement::Control;
 
@@ -111,6 +111,14 @@ impl PlantFigures {
         rate: 0,
         cost: 0,
     };
+
+    // The figures of closing; what is not supported is allocated.
+    pub(crate) fn closed(committed: u32, run: u32) -> PlantFigures
+        ensures { λ r. ⌜ r ≡ closedFigures committed run ⌝ }
+    {
+        let allocated = committed.saturating_sub(run);
+        PlantFigures { committed, allocated, run, support: 0, rate: 0, cost: 0 }
+    }
 }
 
 impl UnitFigures {
