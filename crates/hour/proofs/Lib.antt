@@ -1,2 +1,3 @@
 pub mod Closings
 pub mod Sold
+pub mod Steps

@@ -4,15 +4,14 @@ use mathlib.Core.List.{List}
 use mathlib.Core.Path.{_≡_}
 use Prim.Native.Nat.{ℕ, _+_, _-_, _≤_, _<_, min}
 use lib.Dec.{eqb, ltb}
-use lib.ListN.{length, getD, set, take}
+use lib.ListN.{length, getD, set}
 use Rattle.std.specs.Options.{valueOr}
 use Rattle.std.specs.declared.option.Option.the-variants.{None}
-use Rattle.allocation.specs.Groups.{Group, priceAt}
+use Rattle.allocation.specs.Groups.{Group, priceAt, sumOf}
 use Rattle.allocation.specs.Laws.{Split}
 use Rattle.curves.specs.Limits.{readEnergy}
 use Rattle.settlement.specs.Reference.{netOf}
 use Rattle.settlement.specs.Shares.{groupOneShare}
-use Rattle.std.specs.shelf.Lists.{sumBy}
 use Rattle.hour.specs.Effects.{withPlants, withCompetitive, withGuaranteed}
 use Rattle.hour.specs.Entries.{viewOf}
 use Rattle.hour.specs.Rows.{newUnit, newPlant, closedFigures}
@@ -77,7 +76,7 @@ committedBy plant t = min (viewOf t .sold plant) 20000000
 
 -- the declared energy of a plant's group: its units with an offer row that are not put aside
 abbrev pub declaredBy : ℕ → ℕ → UnitTable → ℕ
-declaredBy plant rows t = sumBy (declaredIn plant) (take (min (min (t .count) 128) rows) (t .units))
+declaredBy plant rows t = sumOf (min (min (t .count) 128) rows) (λ i. declaredIn plant (unitAt t i))
 
 -- the shares of a plant's groups, with so many offer rows in each
 abbrev pub shareOne : ℕ → ℕ → ℕ → Table → ℕ
@@ -97,8 +96,55 @@ plantAt t place = getD (t .plants) place (newPlant 0)
 
 -- Both groups of the plant at a place are closed, and its figures are written; nothing else changes.
 pub record PlantClosed {O P : Type 0} (prices1 : O → ℕ → ℕ) (offers1 : List O) (prices2 : P → ℕ → ℕ) (offers2 : List P) (place : ℕ) (before after : Table) : Type 0 where
+  pub room : place < length (before .plants)
   pub left1 : ℕ
   pub left2 : ℕ
   pub one : GroupClosed prices1 offers1 (place + 1) (plantAt before place .loss) (shareOne (place + 1) (length offers1) (length offers2) before) (before .competitive) (after .competitive) left1
   pub two : GroupClosed prices2 offers2 (place + 1) (plantAt before place .loss) (shareTwo (place + 1) (length offers1) (length offers2) before) (before .guaranteed) (after .guaranteed) left2
   pub rest : after ≡ withPlants (before .«plant_count») (set (before .plants) place (closedPlant (committedBy (place + 1) before) (left1 + left2) (plantAt before place))) (withCompetitive (after .competitive) (withGuaranteed (after .guaranteed) before))
+
+-- a unit without its allocated amount: what was entered of it
+abbrev pub termsOf : UnitRecord → UnitRecord
+termsOf u =
+    record {
+      plant = u .plant;
+      declared = u .declared;
+      seasonal = u .seasonal;
+      internal = u .internal;
+      feeds = u .feeds;
+      aside = u .aside;
+      figures = record { allocated = 0; billed = u .figures .billed; payment = u .figures .payment };
+    }
+
+-- a group's units are as they were, but for their allocated amounts
+pub record SameUnits (before after : UnitTable) : Type 0 where
+  pub count : after .count ≡ before .count
+  pub terms : (i : ℕ) → termsOf (unitAt after i) ≡ termsOf (unitAt before i)
+
+-- a plant's units have the amounts of a split of its share over its group
+pub record Allotted {O : Type 0} (prices : O → ℕ → ℕ) (offers : List O) (plant loss share : ℕ) (before after : UnitTable) (left : ℕ) : Type 0 where
+  pub amount : ℕ → ℕ
+  pub split : Split (plantGroup prices offers plant loss before) share amount left
+  pub given : (i : ℕ) → i < min (before .count) 128 → unitAt before i .plant ≡ plant → unitAt after i .figures .allocated ≡ amount i
+
+-- the plant at a place is closed: its two groups, and its figures
+pub record PlantResult {O P : Type 0} (prices1 : O → ℕ → ℕ) (offers1 : List O) (prices2 : P → ℕ → ℕ) (offers2 : List P) (place : ℕ) (before after : Table) : Type 0 where
+  pub left1 : ℕ
+  pub left2 : ℕ
+  pub one : Allotted prices1 offers1 (place + 1) (plantAt before place .loss) (shareOne (place + 1) (length offers1) (length offers2) before) (before .competitive) (after .competitive) left1
+  pub two : Allotted prices2 offers2 (place + 1) (plantAt before place .loss) (shareTwo (place + 1) (length offers1) (length offers2) before) (before .guaranteed) (after .guaranteed) left2
+  pub row : plantAt after place ≡ closedPlant (committedBy (place + 1) before) (left1 + left2) (plantAt before place)
+
+-- the plants at the first n places are closed, and nothing else changes
+pub record ClosedTo {O P : Type 0} (prices1 : O → ℕ → ℕ) (offers1 : List O) (prices2 : P → ℕ → ℕ) (offers2 : List P) (n : ℕ) (before after : Table) : Type 0 where
+  pub same1 : SameUnits (before .competitive) (after .competitive)
+  pub same2 : SameUnits (before .guaranteed) (after .guaranteed)
+  pub plants : (place : ℕ) → place < n → PlantResult prices1 offers1 prices2 offers2 place before after
+  pub later : (place : ℕ) → n ≤ place → plantAt after place ≡ plantAt before place
+  pub long : length (after .plants) ≡ length (before .plants)
+  pub rest : after ≡ withPlants (before .«plant_count») (after .plants) (withCompetitive (after .competitive) (withGuaranteed (after .guaranteed) before))
+
+-- closing: every plant that is entered
+abbrev pub Closed : {O P : Type 0} → (O → ℕ → ℕ) → List O → (P → ℕ → ℕ) → List P → Table → Table → Type 0
+Closed prices1 offers1 prices2 offers2 before after =
+    ClosedTo prices1 offers1 prices2 offers2 (min (before .«plant_count») 32) before after

@@ -4,8 +4,9 @@ ghost use Prim.Native.Nat.{ℕ, _≤_, _<_, _*_, min};
 ghost use lib.ListN.{length, getD};
 ghost use Rattle.std.specs.declared.option.Option.the-variants.{None};
 ghost use Rattle.std.specs.shelf.Lists.{sumBy};
-ghost use Rattle.hour.specs.Closing.{counts, limitIn, declaredIn, allocatedTo, GroupClosed, declaredBy, PlantClosed};
+ghost use Rattle.hour.specs.Closing.{counts, limitIn, declaredIn, allocatedTo, GroupClosed, declaredBy, PlantClosed, Closed};
 ghost use Rattle.hour.specs.Rows.{newUnit};
+use crate::records::PLANTS;
 use crate::records::Plant;
 use crate::records::PlantFigures;
 use crate::records::Table;
@@ -134,5 +135,15 @@ impl Table {
         let left2 = self.guaranteed.close(guaranteed, plant, loss, committed - share);
         let figures = PlantFigures::closed(committed, left1 + left2);
         self.plants[place] = Plant { loss, figures };
+    }
+
+    // Closes every plant.
+    pub(crate) fn close<O: Offer, G: Offer>(&mut self, offers: &[O], guaranteed: &[G])
+        ensures { λ _. ⌜ Closed (O·Curve .prices) (now (offers .entry)) (G·Curve .prices) (now (guaranteed .entry)) (now (self .entry)) (now (self .exit)) ⌝ }
+    {
+        let n = self.plant_count.min(PLANTS);
+        for place in 0..n {
+            self.close_plant(place, offers, guaranteed);
+        }
     }
 }
