@@ -1,3 +1,4 @@
 pub mod Closings
 pub mod Sold
 pub mod Steps
+pub mod Views

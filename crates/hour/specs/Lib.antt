@@ -4,3 +4,4 @@ pub mod Entries
 pub mod Effects
 pub mod Readings
 pub mod Closing
+pub mod History
