@@ -1,4 +1,5 @@
 pub mod Closings
 pub mod Sold
+pub mod Standing
 pub mod Steps
 pub mod Views

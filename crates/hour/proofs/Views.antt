@@ -13,14 +13,14 @@ use Rattle.hour.specs.declared.records.Table.{Table}
 pub view-same : (h : List Entry) (t : Table) → Stands h t → viewOf t ≡ viewIn h
 view-same h t s =
     let made = λ (a b c d e : ℕ) (f : ℕ → ℕ). let v : View = record { plants = a; competitive = b; guaranteed = c; buyers = d; commitments = e; sold = f } in v in
-    let a : min (t .«plant_count») 32 ≡ plantsIn h = omega (arith, s .plants, s .plants-room) in
+    let a : min (t .«plant_count») 32 ≡ plantsIn h = omega (arith, s .plants .counted, s .plants .room) in
     let b : min (t .competitive .count) 128 ≡ unitsIn 1 h = omega (arith, s .competitive .count, s .competitive .room) in
     let c : min (t .guaranteed .count) 128 ≡ unitsIn 2 h = omega (arith, s .guaranteed .count, s .guaranteed .room) in
-    let d : min (t .«buyer_count») 64 ≡ buyersIn h = omega (arith, s .buyers, s .buyers-room) in
-    let e : min (t .«commitment_count») 768 ≡ commitmentsIn h = omega (arith, s .commitments, s .commitments-room) in
-    let whole : min (t .«commitment_count») 768 ≡ t .«commitment_count» = omega (arith, s .commitments, s .commitments-room) in
+    let d : min (t .«buyer_count») 64 ≡ buyersIn h = omega (arith, s .buyers .counted, s .buyers .room) in
+    let e : min (t .«commitment_count») 768 ≡ commitmentsIn h = omega (arith, s .commitments .counted, s .commitments .room) in
+    let whole : min (t .«commitment_count») 768 ≡ t .«commitment_count» = omega (arith, s .commitments .counted, s .commitments .room) in
     let f : (p : ℕ) → soldBy p (take (min (t .«commitment_count») 768) (t .commitments)) ≡ soldIn p h = λ p.
-          ap (λ n. soldBy p (take n (t .commitments))) whole ∙ s .sold p in
+          ap (λ n. soldBy p (take n (t .commitments))) whole ∙ s .commitments .sold p in
     let sold = λ (p : ℕ). soldBy p (take (min (t .«commitment_count») 768) (t .commitments)) in
     ap (λ x. made x (min (t .competitive .count) 128) (min (t .guaranteed .count) 128) (min (t .«buyer_count») 64) (min (t .«commitment_count») 768) sold) a
     ∙ ap (λ x. made (plantsIn h) x (min (t .guaranteed .count) 128) (min (t .«buyer_count») 64) (min (t .«commitment_count») 768) sold) b

@@ -7,12 +7,15 @@ use lib.Dec.{eqb}
 use lib.ListN.{length, getD, take}
 use Rattle.std.specs.declared.option.Option.{Option}
 use Rattle.std.specs.declared.option.Option.the-variants.{Some, None}
-use Rattle.hour.specs.Closing.{unitAt, plantAt}
+use Rattle.hour.specs.Closing.{unitAt}
 use Rattle.hour.specs.Effects.{unless}
 use Rattle.hour.specs.Entries.{View, rows, soldBy}
 use Rattle.hour.specs.Rows.{newUnit, newPlant, newBuyer, corrected, moved}
 use Rattle.hour.specs.declared.entries.Entry.{Entry}
 use Rattle.hour.specs.declared.entries.Entry.the-variants.{AddPlant, AddCompetitive, AddGuaranteed, Correct, PutAside, TakeBack, AddBuyer, Commit}
+use Rattle.hour.specs.declared.records.Buyer.{Buyer}
+use Rattle.hour.specs.declared.records.Commitment.{Commitment}
+use Rattle.hour.specs.declared.records.Plant.{Plant}
 use Rattle.hour.specs.declared.records.Table.{Table}
 use Rattle.hour.specs.declared.records.UnitRecord.{UnitRecord}
 use Rattle.hour.specs.declared.records.UnitTable.{UnitTable}
@@ -102,6 +105,18 @@ lossIn p (TakeBack group unit ∷ h) = lossIn p h
 lossIn p (AddBuyer loss ∷ h) = lossIn p h
 lossIn p (Commit plant buyer volume ∷ h) = lossIn p h
 
+-- the loss of the buyer of a number
+abbrev pub buyerLossIn : ℕ → List Entry → ℕ
+buyerLossIn b [] = 0
+buyerLossIn b (AddPlant loss ∷ h) = buyerLossIn b h
+buyerLossIn b (AddCompetitive plant declared internal ∷ h) = buyerLossIn b h
+buyerLossIn b (AddGuaranteed plant declared seasonal internal feeds ∷ h) = buyerLossIn b h
+buyerLossIn b (Correct group unit declared ∷ h) = buyerLossIn b h
+buyerLossIn b (PutAside group unit ∷ h) = buyerLossIn b h
+buyerLossIn b (TakeBack group unit ∷ h) = buyerLossIn b h
+buyerLossIn b (AddBuyer loss ∷ h) = cond (eqb b (buyersIn h + 1)) loss (buyerLossIn b h)
+buyerLossIn b (Commit plant buyer volume ∷ h) = buyerLossIn b h
+
 -- the unit of a number in a group: as it was added, with its last correction, aside by its last put aside or take back
 abbrev pub unitIn : ℕ → ℕ → List Entry → UnitRecord
 unitIn g i [] = newUnit 0 0 None 0 0
@@ -143,17 +158,31 @@ pub record UnitsStand (g : ℕ) (h : List Entry) (t : UnitTable) : Type 0 where
   pub count : t .count ≡ unitsIn g h
   pub rows : (i : ℕ) → i < unitsIn g h → unitAt t i ≡ unitIn g (i + 1) h
 
+-- the rows of plants hold those of a history
+pub record PlantsStand (h : List Entry) (count : ℕ) (plants : List Plant) : Type 0 where
+  pub room : plantsIn h ≤ 32
+  pub long : length plants ≡ 32
+  pub counted : count ≡ plantsIn h
+  pub rows : (i : ℕ) → i < plantsIn h → getD plants i (newPlant 0) ≡ newPlant (lossIn (i + 1) h)
+
+-- the rows of buyers hold those of a history
+pub record BuyersStand (h : List Entry) (count : ℕ) (buyers : List Buyer) : Type 0 where
+  pub room : buyersIn h ≤ 64
+  pub long : length buyers ≡ 64
+  pub counted : count ≡ buyersIn h
+  pub rows : (i : ℕ) → i < buyersIn h → getD buyers i (newBuyer 0) ≡ newBuyer (buyerLossIn (i + 1) h)
+
+-- the rows of commitments hold those of a history
+pub record CommitmentsStand (h : List Entry) (count : ℕ) (commitments : List Commitment) : Type 0 where
+  pub room : commitmentsIn h ≤ 768
+  pub long : length commitments ≡ 768
+  pub counted : count ≡ commitmentsIn h
+  pub sold : (p : ℕ) → soldBy p (take count commitments) ≡ soldIn p h
+
 -- a table stands for a history
 pub record Stands (h : List Entry) (t : Table) : Type 0 where
-  pub plants-room : plantsIn h ≤ 32
-  pub plants-long : length (t .plants) ≡ 32
-  pub plants : t .«plant_count» ≡ plantsIn h
-  pub losses : (i : ℕ) → i < plantsIn h → plantAt t i ≡ newPlant (lossIn (i + 1) h)
+  pub plants : PlantsStand h (t .«plant_count») (t .plants)
   pub competitive : UnitsStand 1 h (t .competitive)
   pub guaranteed : UnitsStand 2 h (t .guaranteed)
-  pub buyers-room : buyersIn h ≤ 64
-  pub buyers : t .«buyer_count» ≡ buyersIn h
-  pub commitments-room : commitmentsIn h ≤ 768
-  pub commitments-long : length (t .commitments) ≡ 768
-  pub commitments : t .«commitment_count» ≡ commitmentsIn h
-  pub sold : (p : ℕ) → soldBy p (take (t .«commitment_count») (t .commitments)) ≡ soldIn p h
+  pub buyers : BuyersStand h (t .«buyer_count») (t .buyers)
+  pub commitments : CommitmentsStand h (t .«commitment_count») (t .commitments)
