@@ -7,7 +7,7 @@ use Prim.Native.Nat.{ℕ, _+_, _-_, _≤_, _<_, min}
 use native.Mathlib.Omega.{arith}
 use lib.Dec.{eqb, leb, ltb}
 use lib.ListN.{length, getD, set, take}
-use Rattle.std.proofs.shelf.Lists.{getD-set-same, getD-set-other, length-set, take-more-set}
+use Rattle.std.proofs.shelf.Lists.{getD-set-same, getD-set-other, length-set, take-more, take-more-set}
 use Rattle.std.proofs.shelf.Tests.{cases-eq, eq-eqb, ne-eqb, cond-true, cond-false, leb-false, ltb-false, eqb-false, or-parts, true≢false}
 use Rattle.std.specs.declared.option.Option.{Option}
 use Rattle.std.specs.declared.option.Option.the-variants.{Some, None}
@@ -15,7 +15,7 @@ use Rattle.hour.proofs.Views.{rows-same}
 use Rattle.hour.specs.Closing.{unitAt}
 use Rattle.hour.specs.Effects.{inGroup, applied, afterEntry, unless}
 use Rattle.hour.specs.Entries.{soldBy, lacks, lacksUnit, rows, viewOf}
-use Rattle.hour.specs.History.{addsPlant, addsUnit, addsBuyer, addsCommitment, sells, plantsIn, unitsIn, buyersIn, commitmentsIn, soldIn, lossIn, buyerLossIn, unitIn, UnitsStand, PlantsStand, BuyersStand, CommitmentsStand, Stands, viewIn, nextHistory}
+use Rattle.hour.specs.History.{addsPlant, addsUnit, addsBuyer, addsCommitment, sells, plantsIn, unitsIn, buyersIn, commitmentsIn, soldIn, lossIn, buyerLossIn, unitIn, UnitsStand, PlantsStand, BuyersStand, CommitmentsStand, Stands, viewIn, nextHistory, accepted}
 use Rattle.hour.specs.Rows.{newPlant, newBuyer, newUnit, added, changed, corrected, moved}
 use Rattle.hour.specs.declared.entries.Entry.{Entry}
 use Rattle.hour.specs.declared.entries.Entry.the-variants.{AddPlant, AddCompetitive, AddGuaranteed, Correct, PutAside, TakeBack, AddBuyer, Commit}
@@ -267,3 +267,14 @@ entry-stands e h t s = by-row (rows (viewOf t) e) refl
     by-row (Some refusal) found =
         subst (λ x. Stands (unless x (λ _. h) (e ∷ h)) (afterEntry e t)) (sym (same (Some refusal) found))
         (subst (λ x. Stands h (unless x (λ _. t) (applied e t))) (sym found) s)
+
+-- one entry more, made last
+accepted-push : (h es : List Entry) (e : Entry) → accepted h (es ++ (e ∷ [])) ≡ nextHistory e (accepted h es)
+accepted-push h [] e = refl
+accepted-push h (x ∷ es) e = accepted-push (nextHistory x h) es e
+
+pub entries-stand : (es : List Entry) (i : ℕ) (d : Entry) (h : List Entry) (t next : Table) → i < length es → Stands (accepted h (take i es)) t → next ≡ afterEntry (getD es i d) t → Stands (accepted h (take (i + 1) es)) next
+entries-stand es i d h t next lt s after =
+    subst (λ u. Stands (accepted h (take (i + 1) es)) u) (sym after)
+    (subst (λ l. Stands l (afterEntry (getD es i d) t)) (sym (ap (accepted h) (take-more es i d lt) ∙ accepted-push h (take i es) (getD es i d)))
+      (entry-stands (getD es i d) (accepted h (take i es)) t s))

@@ -1,10 +1,12 @@
 // Entries of an open hour: what turns one down, and what it changes.
 ghost use mathlib.Core.Path.{_≡_};
 ghost use mathlib.Core.Bool.{true, false};
+ghost use mathlib.Core.List.{List};
 ghost use Prim.Native.Nat.{_≤_, _<_, _*_, min};
 ghost use lib.ListN.{length, take};
 ghost use Rattle.std.specs.Options.{Cases};
 ghost use Rattle.hour.specs.Effects.{answerOf, afterEntry};
+ghost use Rattle.hour.specs.History.{Stands, accepted};
 ghost use Rattle.hour.specs.Entries.{viewOf, lacks, lacksUnit, soldBy, rows, addedRows, competitiveRows, guaranteedRows, correctRows, unitRows, commitRows};
 use crate::records::BUYERS;
 use crate::records::Buyer;
@@ -414,6 +416,15 @@ impl Table {
                 buyer,
                 volume,
             } => self.commit(plant, buyer, volume),
+        }
+    }
+
+    /// Takes entries in turn; the refused ones change nothing.
+    pub(crate) fn enter_all(&mut self, entries: &[Entry])
+        ensures { λ _. ⌜ ((h : List Entry) → Stands h (now (self .entry)) → Stands (accepted h (now (entries .entry))) (now (self .exit))) ⌝ }
+    {
+        for entry in entries {
+            let _ = self.enter(*entry);
         }
     }
 }
