@@ -4,7 +4,7 @@ use mathlib.Core.List.{List, [], _∷_}
 use mathlib.Core.Path.{_≡_}
 use Prim.Native.Nat.{ℕ, _+_, _≤_, _<_}
 use lib.Dec.{eqb}
-use lib.ListN.{length, getD, take}
+use lib.ListN.{length, getD, take, replicate}
 use Rattle.std.specs.declared.option.Option.{Option}
 use Rattle.std.specs.declared.option.Option.the-variants.{Some, None}
 use Rattle.hour.specs.Closing.{unitAt}
@@ -186,3 +186,21 @@ pub record Stands (h : List Entry) (t : Table) : Type 0 where
   pub guaranteed : UnitsStand 2 h (t .guaranteed)
   pub buyers : BuyersStand h (t .«buyer_count») (t .buyers)
   pub commitments : CommitmentsStand h (t .«commitment_count») (t .commitments)
+
+-- nothing is entered
+abbrev pub emptyUnits : UnitTable
+emptyUnits = record { count = 0; units = replicate 128 (newUnit 0 0 None 0 0) }
+
+abbrev pub emptyTable : Table
+emptyTable = record {
+  «plant_count» = 0;
+  plants = replicate 32 (newPlant 0);
+  competitive = emptyUnits;
+  guaranteed = emptyUnits;
+  «competitive_readings» = replicate 128 None;
+  «guaranteed_readings» = replicate 128 None;
+  «buyer_count» = 0;
+  buyers = replicate 64 (newBuyer 0);
+  «commitment_count» = 0;
+  commitments = replicate 768 (record { plant = 0; buyer = 0; volume = 0 });
+}

@@ -1,6 +1,8 @@
 // The records of the book's table. They are plain, and each array is made by repeating an empty record.
+ghost use mathlib.Core.List.{[]};
 ghost use mathlib.Core.Path.{_≡_};
 ghost use Prim.Native.Nat.{_+_, _≤_, _<_};
+ghost use Rattle.hour.specs.History.{Stands, emptyTable};
 ghost use Rattle.hour.specs.Rows.{closedFigures, newPlant, newUnit, newBuyer, corrected, moved, added, changed, readUse};
 use settlement::CompetitiveEnergies;
 use settlement::Control;
@@ -134,6 +136,8 @@ impl BuyerFigures {
 }
 
 impl Plant {
+    const EMPTY: Plant = Plant { loss: 0, figures: PlantFigures::NONE };
+
     /// A plant without figures.
     pub(crate) fn new(loss: u32) -> Plant
         ensures { λ r. ⌜ r ≡ newPlant loss ⌝ }
@@ -146,6 +150,16 @@ impl Plant {
 }
 
 impl UnitRecord {
+    const EMPTY: UnitRecord = UnitRecord {
+        plant: 0,
+        declared: 0,
+        seasonal: None,
+        internal: 0,
+        feeds: 0,
+        aside: false,
+        figures: UnitFigures::NONE,
+    };
+
     /// A unit that is not aside.
     pub(crate) fn new(plant: u32, declared: u32, seasonal: Option<u32>, internal: u32, feeds: u32) -> UnitRecord
         ensures { λ r. ⌜ r ≡ newUnit plant declared seasonal internal feeds ⌝ }
@@ -197,6 +211,8 @@ impl UnitTable {
 }
 
 impl Buyer {
+    const EMPTY: Buyer = Buyer { loss: 0, used: None, figures: BuyerFigures::NONE };
+
     /// A buyer whose use was not read.
     pub(crate) fn new(loss: u32) -> Buyer
         ensures { λ r. ⌜ r ≡ newBuyer loss ⌝ }
@@ -216,7 +232,7 @@ impl Buyer {
 }
 
 impl Commitment {
-    pub const EMPTY: Commitment = Commitment {
+    const EMPTY: Commitment = Commitment {
         plant: 0,
         buyer: 0,
         volume: 0,
@@ -243,4 +259,26 @@ pub struct Table {
     pub buyers: [Buyer; BUYERS],
     pub commitment_count: usize,
     pub commitments: [Commitment; COMMITMENTS],
+}
+
+impl Table {
+    /// A table in which nothing is entered.
+    pub(crate) fn empty() -> Table
+        ensures value { λ r. ⌜ r ≡ emptyTable ⌝ }
+        ensures stands { λ r. ⌜ Stands [] r ⌝ }
+    {
+        let units = UnitTable { count: 0, units: [UnitRecord::EMPTY; UNITS] };
+        Table {
+            plant_count: 0,
+            plants: [Plant::EMPTY; PLANTS],
+            competitive: units,
+            guaranteed: units,
+            competitive_readings: [None; UNITS],
+            guaranteed_readings: [None; UNITS],
+            buyer_count: 0,
+            buyers: [Buyer::EMPTY; BUYERS],
+            commitment_count: 0,
+            commitments: [Commitment::EMPTY; COMMITMENTS],
+        }
+    }
 }
