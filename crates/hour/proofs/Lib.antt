@@ -3,3 +3,4 @@ pub mod Sold
 pub mod Standing
 pub mod Steps
 pub mod Views
+pub mod Meters

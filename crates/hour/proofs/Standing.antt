@@ -154,7 +154,7 @@ commitments-add plant buyer volume h count rows room s =
     }
 
 -- the number of a row that is there
-there : (number count : ℕ) → lacks number count ≡ false → (1 ≤ number) × (number ≤ count)
+pub there : (number count : ℕ) → lacks number count ≡ false → (1 ≤ number) × (number ≤ count)
 there number count e =
     let parts = or-parts (eqb number 0) (ltb count number) e in
     (omega (arith, eqb-false number 0 (parts .0)), ltb-false count number (parts .1))

@@ -5,3 +5,4 @@ pub mod Effects
 pub mod Readings
 pub mod Closing
 pub mod History
+pub mod Metered
