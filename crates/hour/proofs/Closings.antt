@@ -27,8 +27,8 @@ module _ {O : Type 0} (prices : O → ℕ → ℕ) (offers : List O) (plant loss
       let made = λ (n : ℕ) (limit : ℕ → ℕ). let g : Group = record { units = n; price = priceAt prices offers; limit = limit } in g in
       let units : min (min (min (length offers) (length limits)) 128) places ≡ min (length offers) 128 = omega arith in
       let each : (i : ℕ) → readEnergy (getD limits i 0) ≡ readEnergy (cond (ltb i (min (t .count) 128)) (limitIn plant loss (unitAt t i)) 0) = λ i.
-            ap readEnergy (⊎-elim
-              (λ lt. entered i lt ∙ sym (cond-true _ _ _ (lt-ltb i (min (t .count) 128) lt)))
-              (λ past. others i past ∙ sym (cond-false _ _ _ (le-ltb i (min (t .count) 128) past)))
-              (cases-lt i (min (t .count) 128))) in
+      ap readEnergy (⊎-elim
+      (λ lt. entered i lt ∙ sym (cond-true _ _ _ (lt-ltb i (min (t .count) 128) lt)))
+      (λ past. others i past ∙ sym (cond-false _ _ _ (le-ltb i (min (t .count) 128) past)))
+      (cases-lt i (min (t .count) 128))) in
       ap (λ n. made n (λ i. readEnergy (getD limits i 0))) units ∙ ap (made (min (length offers) 128)) (fun-ext each)

@@ -28,10 +28,10 @@ row-written : {X Y : Type 0} (rows : List X) (number n : ℕ) (x d : X) (f : X �
 row-written rows number n x d f last long low each i lt =
     ⊎-elim
     (λ (here : i + 1 ≡ number).
-      let at : number - 1 ≡ i = omega arith in
-      ap (λ k. f (getD (set rows k x) i d)) at ∙ ap f (getD-set-same rows i x d (omega arith)) ∙ sym (cond-true _ _ _ (eq-eqb (i + 1) number here)))
+    let at : number - 1 ≡ i = omega arith in
+    ap (λ k. f (getD (set rows k x) i d)) at ∙ ap f (getD-set-same rows i x d (omega arith)) ∙ sym (cond-true _ _ _ (eq-eqb (i + 1) number here)))
     (λ (other : i + 1 ≡ number → ⊥).
-      ap f (getD-set-other rows (number - 1) i x d (λ same. other (omega arith))) ∙ each i lt ∙ sym (cond-false _ _ _ (ne-eqb (i + 1) number other)))
+    ap f (getD-set-other rows (number - 1) i x d (λ same. other (omega arith))) ∙ each i lt ∙ sym (cond-false _ _ _ (ne-eqb (i + 1) number other)))
     (cases-eq (i + 1) number)
 
 applied-metered : (r : Reading) (rs : List Reading) (t : Table) → Metered rs t → readingRows (viewOf t) r ≡ None → Metered (r ∷ rs) (appliedReading r t)

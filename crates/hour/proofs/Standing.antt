@@ -83,10 +83,10 @@ units-add g e h t u room one entered s =
       long = length-set (t .units) (t .count) u ∙ s .long;
       count = omega (arith, s .count);
       rows = λ i lt. one-more (t .units) (t .count) u (newUnit 0 0 None 0 0) (λ k. unitIn g (k + 1) h) (λ k. unitIn g (k + 1) (e ∷ h))
-        (omega (arith, s .long)) (λ k below. s .rows k (omega arith))
-        (λ k below. entered (k + 1) ∙ cond-false _ _ _ (ne-eqb (k + 1) (unitsIn g h + 1) (λ same. omega arith)))
-        (entered (t .count + 1) ∙ cond-true _ _ _ (eq-eqb (t .count + 1) (unitsIn g h + 1) (omega arith)))
-        i (omega arith);
+          (omega (arith, s .long)) (λ k below. s .rows k (omega arith))
+          (λ k below. entered (k + 1) ∙ cond-false _ _ _ (ne-eqb (k + 1) (unitsIn g h + 1) (λ same. omega arith)))
+          (entered (t .count + 1) ∙ cond-true _ _ _ (eq-eqb (t .count + 1) (unitsIn g h + 1) (omega arith)))
+          i (omega arith);
     }
 
 -- one unit changed
@@ -96,16 +96,16 @@ units-change g e h t unit f low high none entered s = record {
   long = length-set (t .units) (unit - 1) _ ∙ s .long;
   count = omega (arith, s .count);
   rows = λ i lt. ⊎-elim
-    (λ (here : i ≡ unit - 1).
+      (λ (here : i ≡ unit - 1).
       let room : unit - 1 < length (t .units) = omega (arith, s .long, s .room) in
       let number : unit - 1 + 1 ≡ unit = omega arith in
       subst (λ k. getD (set (t .units) (unit - 1) (f (unitAt t (unit - 1)))) k (newUnit 0 0 None 0 0) ≡ unitIn g (k + 1) (e ∷ h)) (sym here)
       (getD-set-same (t .units) (unit - 1) _ _ room ∙ ap f (s .rows (unit - 1) (omega arith))
-        ∙ sym (entered (unit - 1 + 1) ∙ cond-true _ _ _ (eq-eqb _ _ number))))
-    (λ (other : i ≡ unit - 1 → ⊥).
+      ∙ sym (entered (unit - 1 + 1) ∙ cond-true _ _ _ (eq-eqb _ _ number))))
+      (λ (other : i ≡ unit - 1 → ⊥).
       getD-set-other (t .units) (unit - 1) i _ _ other ∙ s .rows i (omega arith)
       ∙ sym (entered (i + 1) ∙ cond-false _ _ _ (ne-eqb (i + 1) unit (λ same. other (omega arith)))))
-    (cases-eq i (unit - 1));
+      (cases-eq i (unit - 1));
 }
 
 -- a plant, a buyer and a commitment more
@@ -117,10 +117,10 @@ plants-add loss h count rows room s =
       long = length-set rows count (newPlant loss) ∙ s .long;
       counted = omega (arith, s .counted);
       rows = λ i lt. one-more rows count (newPlant loss) (newPlant 0) (λ k. newPlant (lossIn (k + 1) h)) (λ k. newPlant (lossIn (k + 1) (AddPlant loss ∷ h)))
-        (omega (arith, s .long)) (λ k below. s .rows k (omega arith))
-        (λ k below. ap newPlant (cond-false _ _ _ (ne-eqb (k + 1) (plantsIn h + 1) (λ same. omega arith))))
-        (ap newPlant (cond-true _ _ _ (eq-eqb (count + 1) (plantsIn h + 1) (omega arith))))
-        i (omega arith);
+          (omega (arith, s .long)) (λ k below. s .rows k (omega arith))
+          (λ k below. ap newPlant (cond-false _ _ _ (ne-eqb (k + 1) (plantsIn h + 1) (λ same. omega arith))))
+          (ap newPlant (cond-true _ _ _ (eq-eqb (count + 1) (plantsIn h + 1) (omega arith))))
+          i (omega arith);
     }
 
 pub buyers-add : (loss : ℕ) (h : List Entry) (count : ℕ) (rows : List Buyer) → count < 64 → BuyersStand h count rows → BuyersStand (AddBuyer loss ∷ h) (count + 1) (set rows count (newBuyer loss))
@@ -131,10 +131,10 @@ buyers-add loss h count rows room s =
       long = length-set rows count (newBuyer loss) ∙ s .long;
       counted = omega (arith, s .counted);
       rows = λ i lt. one-more rows count (newBuyer loss) (newBuyer 0) (λ k. newBuyer (buyerLossIn (k + 1) h)) (λ k. newBuyer (buyerLossIn (k + 1) (AddBuyer loss ∷ h)))
-        (omega (arith, s .long)) (λ k below. s .rows k (omega arith))
-        (λ k below. ap newBuyer (cond-false _ _ _ (ne-eqb (k + 1) (buyersIn h + 1) (λ same. omega arith))))
-        (ap newBuyer (cond-true _ _ _ (eq-eqb (count + 1) (buyersIn h + 1) (omega arith))))
-        i (omega arith);
+          (omega (arith, s .long)) (λ k below. s .rows k (omega arith))
+          (λ k below. ap newBuyer (cond-false _ _ _ (ne-eqb (k + 1) (buyersIn h + 1) (λ same. omega arith))))
+          (ap newBuyer (cond-true _ _ _ (eq-eqb (count + 1) (buyersIn h + 1) (omega arith))))
+          i (omega arith);
     }
 
 sold-push : (p : ℕ) (xs : List Commitment) (c : Commitment) → soldBy p (xs ++ (c ∷ [])) ≡ soldBy p xs + cond (eqb (c .plant) p) (c .volume) 0
@@ -149,8 +149,8 @@ commitments-add plant buyer volume h count rows room s =
       long = length-set rows count c ∙ s .long;
       counted = omega (arith, s .counted);
       sold = λ p.
-        let one-more : soldBy p (take (count + 1) (set rows count c)) ≡ soldBy p (take count rows ++ (c ∷ [])) = ap (soldBy p) (take-more-set rows count c (omega (arith, s .long))) in
-        omega (arith, one-more, sold-push p (take count rows) c, s .sold p);
+          let one-more : soldBy p (take (count + 1) (set rows count c)) ≡ soldBy p (take count rows ++ (c ∷ [])) = ap (soldBy p) (take-more-set rows count c (omega (arith, s .long))) in
+          omega (arith, one-more, sold-push p (take count rows) c, s .sold p);
     }
 
 -- the number of a row that is there
@@ -171,26 +171,26 @@ module _ (e : Entry) (group unit : ℕ) (f : UnitRecord → UnitRecord) (h : Lis
   change-stands found =
       ⊎-elim
       (λ (one : group ≡ 1).
-        let at = there unit (min (t .competitive .count) 128) (sym (cond-true _ _ _ (eq-eqb group 1 one)) ∙ found) in
-        subst (Stands (e ∷ h)) (sym (cond-true _ _ _ (eq-eqb group 1 one))) record {
-          plants = plants-stay e h _ _ no-plant losses (s .plants);
-          competitive = units-change 1 e h (t .competitive) unit f (at .0) (omega (arith, at .1, s .competitive .count)) (no-unit 1) (λ i. in-group 1 i (sym one)) (s .competitive);
-          guaranteed = units-stay 2 e h (t .guaranteed) (no-unit 2) (λ i. off-group 2 i (λ same. omega arith)) (s .guaranteed);
-          buyers = buyers-stay e h _ _ no-buyer buyer-losses (s .buyers);
-          commitments = commitments-stay e h _ _ no-commitment sales (s .commitments);
-        })
+      let at = there unit (min (t .competitive .count) 128) (sym (cond-true _ _ _ (eq-eqb group 1 one)) ∙ found) in
+      subst (Stands (e ∷ h)) (sym (cond-true _ _ _ (eq-eqb group 1 one))) record {
+        plants = plants-stay e h _ _ no-plant losses (s .plants);
+        competitive = units-change 1 e h (t .competitive) unit f (at .0) (omega (arith, at .1, s .competitive .count)) (no-unit 1) (λ i. in-group 1 i (sym one)) (s .competitive);
+        guaranteed = units-stay 2 e h (t .guaranteed) (no-unit 2) (λ i. off-group 2 i (λ same. omega arith)) (s .guaranteed);
+        buyers = buyers-stay e h _ _ no-buyer buyer-losses (s .buyers);
+        commitments = commitments-stay e h _ _ no-commitment sales (s .commitments);
+      })
       (λ (not-one : group ≡ 1 → ⊥). ⊎-elim
-        (λ (two : group ≡ 2).
-          let at = there unit (min (t .guaranteed .count) 128) (sym (cond-false _ _ _ (ne-eqb group 1 not-one) ∙ cond-true _ _ _ (eq-eqb group 2 two)) ∙ found) in
-          subst (Stands (e ∷ h)) (sym (cond-false _ _ _ (ne-eqb group 1 not-one))) record {
-            plants = plants-stay e h _ _ no-plant losses (s .plants);
-            competitive = units-stay 1 e h (t .competitive) (no-unit 1) (λ i. off-group 1 i (λ same. omega arith)) (s .competitive);
-            guaranteed = units-change 2 e h (t .guaranteed) unit f (at .0) (omega (arith, at .1, s .guaranteed .count)) (no-unit 2) (λ i. in-group 2 i (sym two)) (s .guaranteed);
-            buyers = buyers-stay e h _ _ no-buyer buyer-losses (s .buyers);
-            commitments = commitments-stay e h _ _ no-commitment sales (s .commitments);
-          })
-        (λ (neither : group ≡ 2 → ⊥). absurd (true≢false (sym (cond-false _ _ _ (ne-eqb group 1 not-one) ∙ cond-false _ _ _ (ne-eqb group 2 neither)) ∙ found)))
-        (cases-eq group 2))
+      (λ (two : group ≡ 2).
+      let at = there unit (min (t .guaranteed .count) 128) (sym (cond-false _ _ _ (ne-eqb group 1 not-one) ∙ cond-true _ _ _ (eq-eqb group 2 two)) ∙ found) in
+      subst (Stands (e ∷ h)) (sym (cond-false _ _ _ (ne-eqb group 1 not-one))) record {
+        plants = plants-stay e h _ _ no-plant losses (s .plants);
+        competitive = units-stay 1 e h (t .competitive) (no-unit 1) (λ i. off-group 1 i (λ same. omega arith)) (s .competitive);
+        guaranteed = units-change 2 e h (t .guaranteed) unit f (at .0) (omega (arith, at .1, s .guaranteed .count)) (no-unit 2) (λ i. in-group 2 i (sym two)) (s .guaranteed);
+        buyers = buyers-stay e h _ _ no-buyer buyer-losses (s .buyers);
+        commitments = commitments-stay e h _ _ no-commitment sales (s .commitments);
+      })
+      (λ (neither : group ≡ 2 → ⊥). absurd (true≢false (sym (cond-false _ _ _ (ne-eqb group 1 not-one) ∙ cond-false _ _ _ (ne-eqb group 2 neither)) ∙ found)))
+      (cases-eq group 2))
       (cases-eq group 1)
 
 -- an accepted entry leads to a table that stands for the longer history
@@ -260,6 +260,7 @@ entry-stands e h t s = by-row (rows (viewOf t) e) refl
   where
     same : (r : Option BookRefusal) → rows (viewOf t) e ≡ r → rows (viewIn h) e ≡ r
     same r found = sym (rows-same e h t s) ∙ found
+
     by-row : (r : Option BookRefusal) → rows (viewOf t) e ≡ r → Stands (nextHistory e h) (afterEntry e t)
     by-row None found =
         subst (λ x. Stands (unless x (λ _. h) (e ∷ h)) (afterEntry e t)) (sym (same None found))
@@ -277,4 +278,4 @@ pub entries-stand : (es : List Entry) (i : ℕ) (d : Entry) (h : List Entry) (t 
 entries-stand es i d h t next lt s after =
     subst (λ u. Stands (accepted h (take (i + 1) es)) u) (sym after)
     (subst (λ l. Stands l (afterEntry (getD es i d) t)) (sym (ap (accepted h) (take-more es i d lt) ∙ accepted-push h (take i es) (getD es i d)))
-      (entry-stands (getD es i d) (accepted h (take i es)) t s))
+    (entry-stands (getD es i d) (accepted h (take i es)) t s))

@@ -48,9 +48,9 @@ pub same-after : {O : Type 0} (prices : O → ℕ → ℕ) (offers : List O) (pl
 same-after prices offers plant loss share t now next left same closed = record {
   count = closed .count ∙ same .count;
   terms = λ i. ⊎-elim
-    (λ lt. ap termsOf (closed .entered i lt) ∙ terms-kept plant (closed .amount i) (unitAt now i) ∙ same .terms i)
-    (λ past. ap termsOf (closed .others i past) ∙ same .terms i)
-    (cases-lt i (min (now .count) 128));
+      (λ lt. ap termsOf (closed .entered i lt) ∙ terms-kept plant (closed .amount i) (unitAt now i) ∙ same .terms i)
+      (λ past. ap termsOf (closed .others i past) ∙ same .terms i)
+      (cases-lt i (min (now .count) 128));
 }
 
 -- the limits and declared energies of a group are those of its terms
@@ -58,8 +58,8 @@ pub group-kept : {O : Type 0} (prices : O → ℕ → ℕ) (offers : List O) (pl
 group-kept prices offers plant loss t now same =
     let made = λ (limit : ℕ → ℕ). let g : Group = record { units = min (length offers) 128; price = priceAt prices offers; limit = limit } in g in
     ap made (fun-ext (λ i.
-      ap (λ c. readEnergy (cond (ltb i (min c 128)) (limitIn plant loss (unitAt now i)) 0)) (same .count)
-      ∙ ap (λ u. readEnergy (cond (ltb i (min (t .count) 128)) (limitIn plant loss u) 0)) (same .terms i)))
+    ap (λ c. readEnergy (cond (ltb i (min c 128)) (limitIn plant loss (unitAt now i)) 0)) (same .count)
+    ∙ ap (λ u. readEnergy (cond (ltb i (min (t .count) 128)) (limitIn plant loss u) 0)) (same .terms i)))
 
 pub declared-kept : (plant rows : ℕ) (t now : UnitTable) → SameUnits t now → declaredBy plant rows now ≡ declaredBy plant rows t
 declared-kept plant rows t now same =
@@ -73,12 +73,12 @@ sum-take f d none xs zero = refl
 sum-take f d none xs (suc n) =
     ⊎-elim
     (λ (lt : n < length xs).
-      let next : sumBy f (take (suc n) xs) ≡ sumBy f (take (n + 1) xs) = ap (λ m. sumBy f (take m xs)) (sym (add-one n)) in
-      omega (arith, next, sumBy-more f xs n d lt, sum-take f d none xs n))
+    let next : sumBy f (take (suc n) xs) ≡ sumBy f (take (n + 1) xs) = ap (λ m. sumBy f (take m xs)) (sym (add-one n)) in
+    omega (arith, next, sumBy-more f xs n d lt, sum-take f d none xs n))
     (λ (past : length xs ≤ n).
-      let all : sumBy f (take (suc n) xs) ≡ sumBy f (take n xs) = ap (sumBy f) (take-all (suc n) xs (omega arith) ∙ sym (take-all n xs past)) in
-      let last : f (getD xs n d) ≡ 0 = ap f (getD-past xs n d past) ∙ none in
-      omega (arith, all, last, sum-take f d none xs n))
+    let all : sumBy f (take (suc n) xs) ≡ sumBy f (take n xs) = ap (sumBy f) (take-all (suc n) xs (omega arith) ∙ sym (take-all n xs past)) in
+    let last : f (getD xs n d) ≡ 0 = ap f (getD-past xs n d past) ∙ none in
+    omega (arith, all, last, sum-take f d none xs n))
     (cases-lt n (length xs))
 
 pub blank-declares : (plant : ℕ) → declaredIn plant (newUnit 0 0 None 0 0) ≡ 0
@@ -110,7 +110,6 @@ module _ {O : Type 0} (prices : O → ℕ → ℕ) (offers : List O) (plant : �
         let kept = kept-other plant (closed .amount i) (unitAt now i) (λ mine. differs (sym own ∙ sym (own-plant i) ∙ mine)) in
         ap (λ (u : UnitRecord). u .figures .allocated) (closed .entered i (omega (arith, same .count)) ∙ kept) ∙ before .given i lt own;
   }
-
 
 module _ {O P : Type 0} (prices1 : O → ℕ → ℕ) (offers1 : List O) (prices2 : P → ℕ → ℕ) (offers2 : List P) (n : ℕ) (before now next : Table) (inv : ClosedTo prices1 offers1 prices2 offers2 n before now) (closed : PlantClosed prices1 offers1 prices2 offers2 n now next) where
   rows-set : next .plants ≡ set (now .plants) n (closedPlant (committedBy (n + 1) now) (closed .left1 + closed .left2) (plantAt now n))
@@ -147,8 +146,8 @@ module _ {O P : Type 0} (prices1 : O → ℕ → ℕ) (offers1 : List O) (prices
     one = allotted-here prices1 offers1 (n + 1) (before .competitive) (now .competitive) (next .competitive) (inv .same1) _ _ _ _ _ same-loss (share-one (n + 1) (length offers1) (length offers2)) (closed .one);
     two = allotted-here prices2 offers2 (n + 1) (before .guaranteed) (now .guaranteed) (next .guaranteed) (inv .same2) _ _ _ _ _ same-loss (share-two (n + 1) (length offers1) (length offers2)) (closed .two);
     row = ap (λ rows. getD rows n (newPlant 0)) rows-set ∙ getD-set-same (now .plants) n _ (newPlant 0) room
-      ∙ ap (λ c. closedPlant c (closed .left1 + closed .left2) (plantAt now n)) (committed-same (n + 1))
-      ∙ ap (closedPlant (committedBy (n + 1) before) (closed .left1 + closed .left2)) same-row;
+        ∙ ap (λ c. closedPlant c (closed .left1 + closed .left2) (plantAt now n)) (committed-same (n + 1))
+        ∙ ap (closedPlant (committedBy (n + 1) before) (closed .left1 + closed .left2)) same-row;
   }
 
   earlier : (place : ℕ) → place < n → PlantResult prices1 offers1 prices2 offers2 place before next
@@ -170,9 +169,9 @@ module _ {O P : Type 0} (prices1 : O → ℕ → ℕ) (offers1 : List O) (prices
         same1 = same-after prices1 offers1 (n + 1) _ _ (before .competitive) (now .competitive) (next .competitive) _ (inv .same1) (closed .one);
         same2 = same-after prices2 offers2 (n + 1) _ _ (before .guaranteed) (now .guaranteed) (next .guaranteed) _ (inv .same2) (closed .two);
         plants = λ place lt. ⊎-elim
-          (λ (same : place ≡ n). subst (λ p. PlantResult prices1 offers1 prices2 offers2 p before next) (sym same) (here room))
-          (λ (other : place ≡ n → ⊥). earlier place (omega arith))
-          (cases-eq place n);
+            (λ (same : place ≡ n). subst (λ p. PlantResult prices1 offers1 prices2 offers2 p before next) (sym same) (here room))
+            (λ (other : place ≡ n → ⊥). earlier place (omega arith))
+            (cases-eq place n);
         later = λ place past. row-other place (λ e. omega arith) ∙ inv .later place (omega arith);
         long = ap length rows-set ∙ length-set (now .plants) n _ ∙ inv .long;
         rest = closed .rest ∙ ap (frame now) (sym rows-set) ∙ ap (λ t. frame t (next .plants)) (inv .rest);

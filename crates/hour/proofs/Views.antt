@@ -20,7 +20,7 @@ view-same h t s =
     let e : min (t .«commitment_count») 768 ≡ commitmentsIn h = omega (arith, s .commitments .counted, s .commitments .room) in
     let whole : min (t .«commitment_count») 768 ≡ t .«commitment_count» = omega (arith, s .commitments .counted, s .commitments .room) in
     let f : (p : ℕ) → soldBy p (take (min (t .«commitment_count») 768) (t .commitments)) ≡ soldIn p h = λ p.
-          ap (λ n. soldBy p (take n (t .commitments))) whole ∙ s .commitments .sold p in
+    ap (λ n. soldBy p (take n (t .commitments))) whole ∙ s .commitments .sold p in
     let sold = λ (p : ℕ). soldBy p (take (min (t .«commitment_count») 768) (t .commitments)) in
     ap (λ x. made x (min (t .competitive .count) 128) (min (t .guaranteed .count) 128) (min (t .«buyer_count») 64) (min (t .«commitment_count») 768) sold) a
     ∙ ap (λ x. made (plantsIn h) x (min (t .guaranteed .count) 128) (min (t .«buyer_count») 64) (min (t .«commitment_count») 768) sold) b

@@ -132,7 +132,8 @@ impl Table {
         let gross2 = self.guaranteed.declared(plant, guaranteed.len());
         let share = group_one_share(committed, gross1, gross2);
         let left1 = self.competitive.close(offers, plant, loss, share);
-        let left2 = self.guaranteed.close(guaranteed, plant, loss, committed - share);
+        let left2 = self.guaranteed
+            .close(guaranteed, plant, loss, committed - share);
         let figures = PlantFigures::closed(committed, left1 + left2);
         self.plants[place] = Plant { loss, figures };
     }

@@ -7,7 +7,7 @@ ghost use lib.ListN.{length, take};
 ghost use Rattle.std.specs.Options.{Cases};
 ghost use Rattle.hour.specs.Effects.{answerOf, afterEntry};
 ghost use Rattle.hour.specs.History.{Stands, accepted};
-ghost use Rattle.hour.specs.Entries.{viewOf, lacks, lacksUnit, soldBy, rows, addedRows, competitiveRows, guaranteedRows, correctRows, unitRows, commitRows};
+ghost use Rattle.hour.specs.Entries.{viewOf, lacks, lacksUnit, soldBy, addedRows, competitiveRows, guaranteedRows, correctRows, unitRows, commitRows};
 use crate::records::BUYERS;
 use crate::records::Buyer;
 use crate::records::COMMITMENTS;
@@ -213,40 +213,6 @@ impl Table {
         }
         None
     }
-
-    /// What turns an entry down, if anything does.
-    pub(crate) fn entry_refusal(&self, entry: Entry) -> Option<BookRefusal>
-        ensures { λ r. ⌜ r ≡ rows (viewOf (now (self .entry))) entry ⌝ }
-    {
-        match entry {
-            Entry::AddPlant { loss } => added_refusal(self.plant_count, PLANTS, loss),
-            Entry::AddCompetitive {
-                plant,
-                declared,
-                internal,
-            } => self.competitive_refusal(plant, declared, internal),
-            Entry::AddGuaranteed {
-                plant,
-                declared,
-                seasonal,
-                internal,
-                feeds,
-            } => { self.guaranteed_refusal(plant, declared, seasonal, internal, feeds) }
-            Entry::Correct {
-                group,
-                unit,
-                declared,
-            } => self.correct_refusal(group, unit, declared),
-            Entry::PutAside { group, unit } => self.unit_refusal(group, unit),
-            Entry::TakeBack { group, unit } => self.unit_refusal(group, unit),
-            Entry::AddBuyer { loss } => added_refusal(self.buyer_count, BUYERS, loss),
-            Entry::Commit {
-                plant,
-                buyer,
-                volume,
-            } => self.commit_refusal(plant, buyer, volume),
-        }
-    }
 }
 
 // What turns down one more row with a loss.
@@ -289,7 +255,10 @@ impl Table {
         if let Some(refusal) = self.competitive_refusal(plant, declared, internal) {
             return Err(refusal);
         }
-        Ok(self.competitive.add(UnitRecord::new(plant, declared, None, internal, 0)))
+        Ok(
+            self.competitive
+                .add(UnitRecord::new(plant, declared, None, internal, 0)),
+        )
     }
 
     fn add_guaranteed(

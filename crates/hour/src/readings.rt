@@ -1,7 +1,10 @@
 // Readings of a closed hour: what turns one down, and what it changes.
+ghost use mathlib.Core.List.{List};
 ghost use mathlib.Core.Path.{_≡_};
 ghost use Prim.Native.Nat.{_≤_, min};
 ghost use Rattle.std.specs.Options.{Cases};
+ghost use Rattle.hour.specs.Entries.{viewOf};
+ghost use Rattle.hour.specs.Metered.{Metered, nextReadings};
 ghost use Rattle.hour.specs.Readings.{greatestEnergy, greatestControl, greatestAdjustment, outside, competitiveReadingRows, guaranteedReadingRows, useRows, readingAnswer, afterReading};
 use crate::records::Adjustments;
 use crate::records::BUYERS;
@@ -14,29 +17,51 @@ use settlement::CompetitiveEnergies;
 use settlement::Control;
 
 const MAX_ENERGY: u32 = 2_000_000;
+
 const MAX_USE: u32 = 50_000_000;
+
 const MAX_ADJUSTMENT: u32 = 100_000_000;
+
 const MAX_DAY: u32 = 400;
+
 const MAX_MINUTE: u32 = 1_439;
 
 /// A reading of a closed hour, by the number of its unit or buyer.
 #[derive(Clone, Copy)]
 pub enum Reading {
-    Competitive { unit: u32, reading: CompetitiveReading },
-    Guaranteed { unit: u32, reading: GuaranteedReading },
-    Use { buyer: u32, used: u32 },
+    Competitive {
+        unit: u32,
+        reading: CompetitiveReading,
+    },
+    Guaranteed {
+        unit: u32,
+        reading: GuaranteedReading,
+    },
+    Use {
+        buyer: u32,
+        used: u32,
+    },
 }
 
 fn greatest_energy(e: &CompetitiveEnergies) -> u32
     ensures { λ r. ⌜ r ≡ greatestEnergy (now (e .entry)) ⌝ }
 {
-    e.net.max(e.accepted).max(e.lost).max(e.limited).max(e.executed)
+    e.net
+        .max(e.accepted)
+        .max(e.lost)
+        .max(e.limited)
+        .max(e.executed)
 }
 
 fn greatest_control(c: &Control) -> u32
     ensures { λ r. ⌜ r ≡ greatestControl (now (c .entry)) ⌝ }
 {
-    c.p_act.max(c.type2).max(c.type3).max(c.type5).max(c.type6).max(c.type8)
+    c.p_act
+        .max(c.type2)
+        .max(c.type3)
+        .max(c.type5)
+        .max(c.type6)
+        .max(c.type8)
 }
 
 fn greatest_adjustment(a: &Adjustments) -> u32
@@ -104,7 +129,11 @@ fn use_refusal(count: usize, buyer: u32, used: u32) -> Option<BookRefusal>
 }
 
 impl Table {
-    fn read_competitive(&mut self, unit: u32, reading: CompetitiveReading) -> Result<u32, BookRefusal>
+    fn read_competitive(
+        &mut self,
+        unit: u32,
+        reading: CompetitiveReading,
+    ) -> Result<u32, BookRefusal>
         ensures answer { λ r. ⌜ r ≡ readingAnswer (Reading.Competitive unit reading) (now (self .entry)) ⌝ }
         ensures after { λ _. ⌜ now (self .exit) ≡ afterReading (Reading.Competitive unit reading) (now (self .entry)) ⌝ }
     {
@@ -139,6 +168,14 @@ impl Table {
 
     /// Takes a reading: answers the number of the row that it changed, or what turned it down.
     pub(crate) fn read(&mut self, reading: Reading) -> Result<u32, BookRefusal>
+        ensures answer { λ r. ⌜ r ≡ readingAnswer reading (now (self .entry)) ⌝ }
+        ensures after { λ _. ⌜ now (self .exit) ≡ afterReading reading (now (self .entry)) ⌝ }
+        ensures metered { λ _. ⌜ ((rs : List Reading) → Metered rs (now (self .entry)) → Metered (nextReadings (viewOf (now (self .entry))) reading rs) (now (self .exit))) ⌝ }
+    {
+        self.take_reading(reading)
+    }
+
+    fn take_reading(&mut self, reading: Reading) -> Result<u32, BookRefusal>
         ensures answer { λ r. ⌜ r ≡ readingAnswer reading (now (self .entry)) ⌝ }
         ensures after { λ _. ⌜ now (self .exit) ≡ afterReading reading (now (self .entry)) ⌝ }
     {

@@ -119,7 +119,14 @@ impl PlantFigures {
         ensures { λ r. ⌜ r ≡ closedFigures committed run ⌝ }
     {
         let allocated = committed.saturating_sub(run);
-        PlantFigures { committed, allocated, run, support: 0, rate: 0, cost: 0 }
+        PlantFigures {
+            committed,
+            allocated,
+            run,
+            support: 0,
+            rate: 0,
+            cost: 0,
+        }
     }
 }
 
@@ -136,7 +143,10 @@ impl BuyerFigures {
 }
 
 impl Plant {
-    const EMPTY: Plant = Plant { loss: 0, figures: PlantFigures::NONE };
+    const EMPTY: Plant = Plant {
+        loss: 0,
+        figures: PlantFigures::NONE,
+    };
 
     /// A plant without figures.
     pub(crate) fn new(loss: u32) -> Plant
@@ -161,10 +171,24 @@ impl UnitRecord {
     };
 
     /// A unit that is not aside.
-    pub(crate) fn new(plant: u32, declared: u32, seasonal: Option<u32>, internal: u32, feeds: u32) -> UnitRecord
+    pub(crate) fn new(
+        plant: u32,
+        declared: u32,
+        seasonal: Option<u32>,
+        internal: u32,
+        feeds: u32,
+    ) -> UnitRecord
         ensures { λ r. ⌜ r ≡ newUnit plant declared seasonal internal feeds ⌝ }
     {
-        UnitRecord { plant, declared, seasonal, internal, feeds, aside: false, figures: UnitFigures::NONE }
+        UnitRecord {
+            plant,
+            declared,
+            seasonal,
+            internal,
+            feeds,
+            aside: false,
+            figures: UnitFigures::NONE,
+        }
     }
 
     // The seasonal energy stays, and with it a guaranteed unit's limit.
@@ -211,7 +235,11 @@ impl UnitTable {
 }
 
 impl Buyer {
-    const EMPTY: Buyer = Buyer { loss: 0, used: None, figures: BuyerFigures::NONE };
+    const EMPTY: Buyer = Buyer {
+        loss: 0,
+        used: None,
+        figures: BuyerFigures::NONE,
+    };
 
     /// A buyer whose use was not read.
     pub(crate) fn new(loss: u32) -> Buyer
@@ -267,7 +295,10 @@ impl Table {
         ensures value { λ r. ⌜ r ≡ emptyTable ⌝ }
         ensures stands { λ r. ⌜ Stands [] r ⌝ }
     {
-        let units = UnitTable { count: 0, units: [UnitRecord::EMPTY; UNITS] };
+        let units = UnitTable {
+            count: 0,
+            units: [UnitRecord::EMPTY; UNITS],
+        };
         Table {
             plant_count: 0,
             plants: [Plant::EMPTY; PLANTS],

@@ -10,9 +10,10 @@ use Rattle.hour.proofs.closing.declared_by.Needs as need
 
 pub loop-unit-again : need.loop-unit-again
 loop-unit-again c =
-    let more = sumBy-more (declaredIn (c .args .plant)) (c .args .units .now) (c .loop-unit .unit-index) (newUnit 0 0 None 0 0) (c .loop-unit-test .taken) in
-    (omega (arith, more, c .loop-unit .inv .0, c .declared-in-sum .ensures .value),
-     omega (arith, c .loop-unit .inv .1, c .declared-in-sum .ensures .bound))
+    let more = sumBy-more (declaredIn (c .args .plant)) (c .args .units .now) (c .loop-unit .unit-index) (newUnit 0 0 None 0 0) (c .loop-unit-test .taken) in (
+      omega (arith, more, c .loop-unit .inv .0, c .declared-in-sum .ensures .value),
+      omega (arith, c .loop-unit .inv .1, c .declared-in-sum .ensures .bound),
+    )
 
 pub returns : need.returns
 returns c = record {

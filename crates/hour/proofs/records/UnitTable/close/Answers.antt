@@ -12,8 +12,8 @@ returns g c =
     let before = c .args .self .now in
     let row = c .write-limits .last .limits in
     let same = group-same (g .O·Curve .prices) (c .args .offers .now) (c .args .plant) (c .args .loss) before row 128 (omega arith) refl
-          (λ i lt. c .write-limits .ensures .entered i (omega arith))
-          (λ i past. c .write-limits .ensures .others i (omega arith) ∙ zero-row 128 i) in
+    (λ i lt. c .write-limits .ensures .entered i (omega arith))
+    (λ i past. c .write-limits .ensures .others i (omega arith) ∙ zero-row 128 i) in
     record {
       amount = amountAt (c .split-uncovered .last .amounts);
       split = subst (λ group. Split group (c .args .share) (amountAt (c .split-uncovered .last .amounts)) (c .split-uncovered .result)) same (c .split-uncovered .ensures);
