@@ -4,3 +4,4 @@ pub mod Standing
 pub mod Steps
 pub mod Views
 pub mod Meters
+pub mod Laws

@@ -6,3 +6,4 @@ pub mod Readings
 pub mod Closing
 pub mod History
 pub mod Metered
+pub mod ClosingLaw
