@@ -1,11 +1,15 @@
 // Closing: the split of each plant's commitments over its units.
+ghost use mathlib.Core.List.{List};
 ghost use mathlib.Core.Path.{_≡_};
 ghost use Prim.Native.Nat.{ℕ, _≤_, _<_, _*_, min};
 ghost use lib.ListN.{length, getD};
 ghost use Rattle.std.specs.declared.option.Option.the-variants.{None};
 ghost use Rattle.std.specs.shelf.Lists.{sumBy};
 ghost use Rattle.hour.specs.Closing.{counts, limitIn, declaredIn, allocatedTo, GroupClosed, declaredBy, PlantClosed, Closed};
+ghost use Rattle.hour.specs.ClosingLaw.{ClosingLaw};
+ghost use Rattle.hour.specs.History.{Stands};
 ghost use Rattle.hour.specs.Rows.{newUnit};
+ghost use Rattle.hour.specs.declared.entries.Entry.{Entry};
 use crate::records::PLANTS;
 use crate::records::Plant;
 use crate::records::PlantFigures;
@@ -138,8 +142,16 @@ impl Table {
         self.plants[place] = Plant { loss, figures };
     }
 
-    // Closes every plant.
+    /// Closes the hour: splits each plant's commitments over its units. The law of a closed hour then holds.
     pub(crate) fn close<O: Offer, G: Offer>(&mut self, offers: &[O], guaranteed: &[G])
+        ensures after { λ _. ⌜ Closed (O·Curve .prices) (now (offers .entry)) (G·Curve .prices) (now (guaranteed .entry)) (now (self .entry)) (now (self .exit)) ⌝ }
+        ensures law { λ _. ⌜ ((h : List Entry) → Stands h (now (self .entry)) → ClosingLaw (O·Curve .prices) (now (offers .entry)) (G·Curve .prices) (now (guaranteed .entry)) h (now (self .exit))) ⌝ }
+    {
+        self.close_plants(offers, guaranteed);
+    }
+
+    // Closes every plant.
+    fn close_plants<O: Offer, G: Offer>(&mut self, offers: &[O], guaranteed: &[G])
         ensures { λ _. ⌜ Closed (O·Curve .prices) (now (offers .entry)) (G·Curve .prices) (now (guaranteed .entry)) (now (self .entry)) (now (self .exit)) ⌝ }
     {
         let n = self.plant_count.min(PLANTS);

@@ -1,5 +1,5 @@
 use Rattle.hour.specs.Closing.{ClosedTo}
-use Rattle.hour.proofs.records.Table.close.Given as given
+use Rattle.hour.proofs.records.Table.close_plants.Given as given
 
 abbrev pub Inv-loop-place : given.InvT-loop-place
 Inv-loop-place g l =
