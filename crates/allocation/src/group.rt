@@ -1,6 +1,6 @@
 // A group's units: each has an offer and a limit, at the same place of two rows.
 ghost use mathlib.Core.Path.{_≡_};
-ghost use Prim.Native.Nat.{suc, min, _<_, _≤_};
+ghost use Prim.Native.Nat.{suc, min, _<_};
 ghost use lib.ListN.{length, getD};
 ghost use Rattle.curves.specs.Limits.{readEnergy};
 ghost use Rattle.curves.specs.Prices.{AtMost};

@@ -1,10 +1,9 @@
 // Lists of steps, as the stepped offer and the stepped cost hold them.
 ghost use mathlib.Core.Path.{_≡_};
-ghost use Prim.Native.Nat.{ℕ, _≤_, _<_};
+ghost use Prim.Native.Nat.{_≤_, _<_};
 ghost use lib.ListN.{length, take};
 ghost use Rattle.std.specs.Vec.{made};
-ghost use Rattle.curves.specs.Limits.{readKwh, readPrice, readCount};
-ghost use Rattle.curves.specs.Prices.{Stretch};
+ghost use Rattle.curves.specs.Limits.{readKwh, readCount};
 ghost use Rattle.curves.specs.Refusals.{falls, priceFalls, widthsFit, pricesFit, paddedSteps, tableMade};
 ghost use Rattle.curves.specs.Steps.{stepPrice, readFrom, priceRead, stepsOf, LevelAt};
 use crate::limits::MAX_KWH;

@@ -1,6 +1,6 @@
 // Energy at the reference point.
 ghost use mathlib.Core.Path.{_≡_};
-ghost use Prim.Native.Nat.{_≤_, _<_, _^_};
+ghost use Prim.Native.Nat.{_≤_};
 ghost use Rattle.settlement.specs.Reference.{kept, atReference, netOf, billOf};
 use curves::MAX_KWH;
 
