@@ -1,4 +1,6 @@
 // The least-cost split of a contract group's share over its units.
+#![tactic(auto)]
+
 mod example;
 mod fill;
 mod group;

@@ -1,4 +1,6 @@
 // An hour of the book, from opening to release.
+#![tactic(auto)]
+
 mod book;
 mod closed;
 mod open;

@@ -1,4 +1,6 @@
 // Compares every kind of curve with a second calculation that goes kWh by kWh.
+#![tactic(auto)]
+
 mod by_kwh;
 mod compare;
 mod counts;

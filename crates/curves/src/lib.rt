@@ -1,4 +1,6 @@
 // Price curves and offers: what each kilowatt-hour costs, in rial per MWh.
+#![tactic(auto)]
+
 mod limits;
 mod modified_curve;
 mod raised_curve;

@@ -1,4 +1,6 @@
 // The book of one hour: what is entered, read and settled.
+#![tactic(auto)]
+
 mod closing;
 mod entries;
 mod readings;

@@ -1,4 +1,6 @@
 // Hours whose answers and figures a second calculation gives: calls that are turned down, and pseudo-random hours.
+#![tactic(auto)]
+
 mod calls;
 mod drawn_hours;
 mod entry_draws;

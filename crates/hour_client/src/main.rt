@@ -1,4 +1,6 @@
 // A client of the book: sells ahead, closes, reads, settles, and asks for the support cost.
+#![tactic(auto)]
+
 mod sale;
 
 use book::{Book, Header};

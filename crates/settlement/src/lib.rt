@@ -1,4 +1,6 @@
 // The figures of an hour's settlement, each a function of values.
+#![tactic(auto)]
+
 mod payments;
 mod readings;
 mod reference;

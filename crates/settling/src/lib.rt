@@ -1,4 +1,6 @@
 // Settling a closed hour: the figures of its units, plants and buyers.
+#![tactic(auto)]
+
 mod buyers;
 mod differences;
 mod header;

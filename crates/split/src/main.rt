@@ -1,4 +1,6 @@
 // Splits the shares of a job over the units of a contract group, each share at the least cost.
+#![tactic(auto)]
+
 mod faults;
 mod job;
 mod lines;

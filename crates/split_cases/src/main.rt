@@ -1,4 +1,6 @@
 // Compares the split of pseudo-random groups with a second calculation that goes kWh by kWh.
+#![tactic(auto)]
+
 mod by_kwh;
 mod cases;
 mod compare;

@@ -1,4 +1,6 @@
 // The book's table: what is entered, how it is closed, and what is read.
+#![tactic(auto)]
+
 mod answers;
 mod closing;
 mod entries;

@@ -1,4 +1,6 @@
 // The worked hour, from opening to release.
+#![tactic(auto)]
+
 mod examples;
 mod worked;
 
