@@ -1,10 +1,10 @@
 -- Lemmas on the checks of a step list: what they leave to check, and that an accepted list is read as it stands.
-use Rattle.std.proofs.Common.{◌≡◌, ℕ, ◌<◌, ◌≤◌, Bool, true, false, cond, not, ◌&&◌, ◌||◌, eqb, ltb, leb, List, [], ◌∷◌, length, take, sym, refl, ap, ◌∙◌, arith}
+use Rattle.std.proofs.Common.{◌≡◌, ℕ, ◌<◌, ◌≤◌, Bool, true, false, ◌&&◌, ◌||◌, List, [], ◌∷◌, length, refl, ap, ◌∙◌, arith}
 use Rattle.std.proofs.lemmas.List.{take_at}
 use Rattle.std.proofs.lemmas.Bool.{and_parts, or_parts, leb-true, ltb-false, eqb-false, not-false}
 use Rattle.curves.specs.Limits.{read_kwh, read_count}
 use Rattle.curves.specs.Steps.{price_read, read_from, steps_of}
-use Rattle.curves.specs.Refusals.{widths_fit, prices_fit, price_falls, falls, bad_steps, padded_steps}
+use Rattle.curves.specs.Refusals.{widths_fit, prices_fit, falls, bad_steps, padded_steps}
 use Rattle.curves.specs.declared.steps.Step.{Step}
 use Rattle.curves.specs.declared.steps.Reading.{Reading}
 use Rattle.curves.specs.declared.steps.Reading.TheVariants.{AsGiven, Lifted}

@@ -1,13 +1,12 @@
 -- Lemmas on walking along a list of steps.
-use Rattle.std.proofs.Common.{◌≡◌, ℕ, suc, ◌+◌, ◌-◌, ◌<◌, ◌≤◌, cond, leb, List, [], ◌∷◌, length, get_or, drop, sym, ap, ◌∙◌, arith}
+use Rattle.std.proofs.Common.{◌≡◌, ℕ, ◌+◌, ◌-◌, ◌<◌, ◌≤◌, cond, leb, List, [], ◌∷◌, length, get_or, drop, sym, ap, ◌∙◌, arith}
 use Rattle.std.proofs.lemmas.Bool.{le-leb, lt-leb, cond-true, cond-false, cond_both, leb-true, leb-false}
 use Rattle.std.proofs.lemmas.List.{drop_more, drop_all}
 use Rattle.curves.specs.Limits.{read_kwh}
-use Rattle.curves.specs.Prices.{Stretch}
-use Rattle.curves.specs.Steps.{price_after, step_price, price_read, read_from, LevelAt}
+use Rattle.curves.specs.Steps.{price_after, price_read, read_from, LevelAt}
 use Rattle.curves.specs.declared.steps.Step.{Step}
 use Rattle.curves.specs.declared.steps.Reading.{Reading}
-use Rattle.curves.specs.declared.steps.Reading.TheVariants.{AsGiven, Lifted}
+use Rattle.curves.specs.declared.steps.Reading.TheVariants.{Lifted}
 
 -- the price of kWh k by the steps that are left, read after a step of the price `last`
 abbrev pub rest : Reading → ℕ → List Step → ℕ → ℕ

@@ -1,5 +1,5 @@
 -- Lists of steps: what they mean, how a record's fields are read, and which lists are refused.
-use Rattle.std.specs.Prelude.{◌≡◌, ℕ, ◌-◌, max, Bool, true, false, cond, not, ◌&&◌, ◌||◌, List, [], ◌∷◌, ◌++◌, length, take, replicate, Some, None, Option, nat_le}
+use Rattle.std.specs.Prelude.{◌≡◌, ℕ, ◌-◌, max, cond, List, [], ◌∷◌, take, nat_le}
 use Rattle.curves.specs.Limits.{read_kwh, read_price, read_count}
 use Rattle.curves.specs.Prices.{Stretch}
 use Rattle.curves.specs.declared.steps.Level.{Level}

@@ -48,7 +48,7 @@ pub trait Offer: Curve {
 
 /// How many of the first `energy` kWh come before the first that costs more than `price`.
 pub(crate) fn count_before_dearer<C: Curve>(curve: &C, energy: u32, price: u32) -> u32
-    ensures { BeforeDearer (prices curve.now) (read_energy energy) price result }
+    ensures { BeforeDearer (C.prices curve.now) (read_energy energy) price result }
 {
     let energy = read_energy(energy);
     let mut done = 0u32;

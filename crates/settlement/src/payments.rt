@@ -64,7 +64,7 @@ impl PaidUnit {
 
 // The cost of kWh a + 1 to b.
 fn cost_between<C: Curve>(curve: &C, a: u32, b: u32) -> u64
-    ensures value { result ≡ cost_between (prices curve.now) (read_energy a) (read_energy b) }
+    ensures value { result ≡ cost_between (C.prices curve.now) (read_energy a) (read_energy b) }
     ensures bound { result ≤ 20000000000000 }
 {
     curve.cost(b).saturating_sub(curve.cost(a))
@@ -80,7 +80,7 @@ fn lesser_between<C: Curve, D: Curve>(one: &C, other: &D, a: u32, b: u32) -> u64
 
 // The cost of kWh a + 1 to b, each at the curve's price of one kWh.
 fn cost_at<C: Curve>(curve: &C, kwh: u32, a: u32, b: u32) -> u64
-    ensures value { result ≡ cost_between (λ _. prices curve.now (read_kwh kwh)) (read_energy a) (read_energy b) }
+    ensures value { result ≡ cost_between (λ _. C.prices curve.now (read_kwh kwh)) (read_energy a) (read_energy b) }
     ensures bound { result ≤ 20000000000000 }
 {
     let count = b.min(MAX_KWH).saturating_sub(a.min(MAX_KWH));
@@ -122,7 +122,7 @@ pub fn competitive_payment<O: Curve, C: Curve>(
 /// What a guaranteed unit is paid: its billed energy by its offer, and the transmission that it saves if it feeds the
 /// distribution grid.
 pub fn guaranteed_payment<O: Curve>(offer: &O, billed: u32, feeds: u32, saving: u32) -> u64
-    ensures value { result ≡ guaranteed_payment billed (prices offer.now) feeds saving }
+    ensures value { result ≡ guaranteed_payment billed (O.prices offer.now) feeds saving }
     ensures bound { result ≤ 8609934590000000 }
 {
     let saved = billed.min(MAX_KWH) as u64 * feeds.min(1) as u64 * saving as u64;

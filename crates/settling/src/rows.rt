@@ -37,7 +37,7 @@ pub(crate) fn offer_payment<G: Curve>(
     feeds: u32,
     saving: u32,
 ) -> u64
-    ensures value { result ≡ offer_payment prices saving offers.now place billed feeds }
+    ensures value { result ≡ offer_payment G.prices saving offers.now place billed feeds }
     ensures bound { result ≤ 8609934590000000 }
 {
     if place >= offers.len() {

@@ -32,7 +32,7 @@ fn settle_competitive<O: Curve, C: Curve>(
 
 // Bills and pays the guaranteed units.
 fn settle_guaranteed<G: Curve>(group: &mut UnitTable, plants: &[Plant], offers: &[G], saving: u32)
-    ensures settled { GroupSettled (λ i u. offer_payment prices saving offers.now i (bill_in u) u.feeds) plants.now group.old group.new }
+    ensures settled { GroupSettled (λ i u. offer_payment G.prices saving offers.now i (bill_in u) u.feeds) plants.now group.old group.new }
     ensures bound { PaidWithin group.new }
 {
     let n = group.count.min(UNITS);

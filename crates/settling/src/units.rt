@@ -106,7 +106,7 @@ pub(crate) fn pay_by_rows<O: Curve, C: Curve>(
 // Pays each of the first `n` guaranteed units, which are billed, by its offer.
 pub(crate) fn pay_by_offers<G: Curve>(units: &mut [UnitRecord], n: usize, offers: &[G], saving: u32)
     requires { n ≤ length units.old }
-    ensures entered { (k : ℕ) → k < n → slice_index_or units.new k (new_unit 0 0 None 0 0) ≡ paid_to (offer_payment prices saving offers.now k (get_or units.old k (new_unit 0 0 None 0 0)).figures.billed (get_or units.old k (new_unit 0 0 None 0 0)).feeds) (slice_index_or units.old k (new_unit 0 0 None 0 0)) }
+    ensures entered { (k : ℕ) → k < n → slice_index_or units.new k (new_unit 0 0 None 0 0) ≡ paid_to (offer_payment G.prices saving offers.now k (get_or units.old k (new_unit 0 0 None 0 0)).figures.billed (get_or units.old k (new_unit 0 0 None 0 0)).feeds) (slice_index_or units.old k (new_unit 0 0 None 0 0)) }
     ensures bounded { (k : ℕ) → k < n → (get_or units.new k (new_unit 0 0 None 0 0)).figures.payment ≤ 8609934590000000 }
     ensures others { (k : ℕ) → n ≤ k → slice_index_or units.new k (new_unit 0 0 None 0 0) ≡ slice_index_or units.old k (new_unit 0 0 None 0 0) }
 {

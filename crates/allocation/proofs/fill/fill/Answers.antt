@@ -14,10 +14,10 @@ loop-i-init g c = filled_none _ _ _ _
 cheaper-count : (price : ℕ → ℕ) (e p q r : ℕ) → p ≡ q → AtMost (λ k. suc (price k)) e q r → AtMost (λ k. suc (price k)) e p r
 cheaper-count price e p q r same counted = subst (λ x. AtMost (λ k. suc (price k)) e x r) (sym same) counted
 
-pub overflow-sub-marginal : goal.overflow-sub-marginal
-overflow-sub-marginal g c =
+pub overflow_sub-marginal : goal.overflow_sub-marginal
+overflow_sub-marginal g c =
     let price = price_at g.O.Curve.prices c.args.offers.now c.loop-i.i in
-    cheaper_first price _ c.args.price _ _ (cheaper-count price _ _ _ _ (omega arith) c.count-below-cheaper.ensures) c.count-up-to.ensures
+    cheaper_first price _ c.args.price _ _ (cheaper-count price _ _ _ _ (omega arith) c.count_below-cheaper.ensures) c.count_up_to.ensures
 
 pub loop-i-preserved : goal.loop-i-preserved
 loop-i-preserved g c =
@@ -25,18 +25,18 @@ loop-i-preserved g c =
     let i = c.loop-i.i in
     let p = c.args.price in
     let row = c.loop-i.amounts in
-    let below-p = cheaper-count (group.price i) (group.limit i) p _ c.count-below-cheaper.result (omega arith) c.count-below-cheaper.ensures in
-    let cheaper : c.count-below-cheaper.result ≡ below group p i = count_is _ _ _ _ below-p in
-    let marginal : c.count-up-to.result ≡ up_to group p i = count_is _ _ _ _ c.count-up-to.ensures in
+    let below-p = cheaper-count (group.price i) (group.limit i) p _ c.count_below-cheaper.result (omega arith) c.count_below-cheaper.ensures in
+    let cheaper : c.count_below-cheaper.result ≡ below group p i = count_is _ _ _ _ below-p in
+    let marginal : c.count_up_to.result ≡ up_to group p i = count_is _ _ _ _ c.count_up_to.ensures in
     let parted : Parted group p i = record {
       cheaper = at_most_count _ _ _ _ below-p;
-      marginal = at_most_count _ _ _ _ c.count-up-to.ensures;
+      marginal = at_most_count _ _ _ _ c.count_up_to.ensures;
     } in
     filled_more group i p c.args.left c.loop-i.rest _ (amount_at row) _ c.min-more.result c.loop-i.invariant
     (λ k lt. get_or-set_other row i k _ 0 (omega arith))
     parted
     (omega (arith, c.min-more.ensures))
-    (omega (arith, get_or-set_same row i (c.count-below-cheaper.result + c.min-more.result) 0 (omega arith)))
+    (omega (arith, get_or-set_same row i (c.count_below-cheaper.result + c.min-more.result) 0 (omega arith)))
     (omega arith)
 
 pub returns : goal.returns

@@ -7,4 +7,4 @@ pub returns : goal.returns
 returns g c =
     at_most_same (price_at g.O.Curve.prices c.args.offers.now c.args.unit) (g.O.Curve.prices c.index-offers-unit.result) _ _ _
     (price_at_lem g.O.Curve.prices c.args.offers.now c.args.unit _ c.requires.0 c.index-offers-unit.is)
-    c.count-at-most.ensures.count
+    c.count_at_most.ensures.count

@@ -9,8 +9,8 @@ use Rattle.allocation.proofs.group.total_cost.Goals as goal
 pub loop-i-init : goal.loop-i-init
 loop-i-init g c = (sym (sum_none _), omega arith)
 
-pub overflow-add-total : goal.overflow-add-total
-overflow-add-total g c =
+pub overflow_add-total : goal.overflow_add-total
+overflow_add-total g c =
     let energy = read_energy (amount_at c.args.amounts.now c.loop-i.i) in
     omega (
       arith,

@@ -10,7 +10,7 @@ loop-low-preserved g c =
       omega arith,
       omega arith,
       c.loop-low.invariant.2,
-      λ q lt. omega (arith, supply_rises group c.args.n q mid (omega arith), c.supply-up-to.ensures),
+      λ q lt. omega (arith, supply_rises group c.args.n q mid (omega arith), c.supply_up_to.ensures),
     )
 
 pub returns : goal.returns

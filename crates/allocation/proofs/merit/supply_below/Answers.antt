@@ -11,4 +11,4 @@ returns-then-price-eq0 g c =
 pub returns : goal.returns
 returns g c =
     let group = units_of g.O.Curve.prices c.args.offers.now c.args.limits.now c.args.n in
-    c.supply-up-to.ensures ∙ sym (supply_less group c.args.n c.args.price (c.args.price - 1) (omega arith))
+    c.supply_up_to.ensures ∙ sym (supply_less group c.args.n c.args.price (c.args.price - 1) (omega arith))

@@ -11,7 +11,7 @@ loop-i-init g c = (sym (sum_none _), omega arith)
 pub loop-i-preserved : goal.loop-i-preserved
 loop-i-preserved g c =
     let group = units_of g.O.Curve.prices c.args.offers.now c.args.limits.now c.args.n in
-    let counted = count_is _ _ _ _ c.count-up-to-sum.ensures in (
+    let counted = count_is _ _ _ _ c.count_up_to-sum.ensures in (
       omega (arith, sum_more c.loop-i.i (up_to group c.args.price), counted, c.loop-i.invariant.0),
-      omega (arith, c.count-up-to-sum.ensures.within, c.loop-i.invariant.1),
+      omega (arith, c.count_up_to-sum.ensures.within, c.loop-i.invariant.1),
     )

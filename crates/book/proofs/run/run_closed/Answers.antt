@@ -15,16 +15,16 @@ returns g c =
     let guaranteed = c.args.calls.now.guaranteed.now in
     let prices1 = g.O.Curve.prices in
     let prices2 = g.G.Curve.prices in
-    let start = c.run-open-open.result.table.now in
+    let start = c.run_open-open.result.table.now in
     let closed = c.close-hour.result.table.now in
-    let s = c.run-open-open.ensures.stands in
+    let s = c.run_open-open.ensures.stands in
     let done = c.close-hour.ensures.closed in
-    let led = c.read-all.ensures.after in
+    let led = c.read_all.ensures.after in
     record {
-      judged = c.run-open-open.ensures.judged;
-      read = readings_judged entries readings closed _ _ (closed_stands prices1 offers prices2 guaranteed start closed done (entered entries) s) c.read-all.ensures.answered;
+      judged = c.run_open-open.ensures.judged;
+      read = readings_judged entries readings closed _ _ (closed_stands prices1 offers prices2 guaranteed start closed done (entered entries) s) c.read_all.ensures.answered;
       law = subst (ClosingLaw prices1 offers prices2 guaranteed (entered entries)) (sym led) (run_closed_law entries prices1 offers prices2 guaranteed start closed s done readings);
       stands = subst (Stands (entered entries)) (sym led) (run_closed_stands entries prices1 offers prices2 guaranteed start closed s done readings);
-      metered = subst (Metered (metered entries readings)) (sym led) (run_closed_metered entries prices1 offers prices2 guaranteed start closed s done readings c.run-open-open.ensures.unread);
-      header = c.read-all.ensures.header ∙ c.close-hour.ensures.header ∙ c.run-open-open.ensures.header;
+      metered = subst (Metered (metered entries readings)) (sym led) (run_closed_metered entries prices1 offers prices2 guaranteed start closed s done readings c.run_open-open.ensures.unread);
+      header = c.read_all.ensures.header ∙ c.close-hour.ensures.header ∙ c.run_open-open.ensures.header;
     }

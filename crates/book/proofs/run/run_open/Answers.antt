@@ -10,10 +10,10 @@ use Rattle.book.proofs.run.run_open.Goals as goal
 pub returns : goal.returns
 returns c =
     let entries = c.args.entries.now in
-    let led = c.enter-all.ensures.after ∙ ap (after_entries entries) c.open-hour.ensures.empty in
+    let led = c.enter_all.ensures.after ∙ ap (after_entries entries) c.open-hour.ensures.empty in
     record {
-      judged = entries_judged entries _ _ _ c.open-hour.ensures.empty c.enter-all.ensures.answered;
+      judged = entries_judged entries _ _ _ c.open-hour.ensures.empty c.enter_all.ensures.answered;
       stands = subst (Stands (entered entries)) (sym led) (entered_stands entries);
       unread = subst (Metered []) (sym led) (entered_unread entries);
-      header = c.enter-all.ensures.header ∙ c.open-hour.ensures.header;
+      header = c.enter_all.ensures.header ∙ c.open-hour.ensures.header;
     }

@@ -8,6 +8,6 @@ returns c =
     let list = c.args.list.now in
     let blank : Step = record { width = 0; price = 0 } in
     let whole : length list - 0 ≡ length list = omega arith in
-    ap (λ xs. xs ++ drop (length list - 0) (replicate 10 blank)) c.copy-from-slice.ensures.after
+    ap (λ xs. xs ++ drop (length list - 0) (replicate 10 blank)) c.copy_from_slice.ensures.after
     ∙ ap (λ n. list ++ drop n (replicate 10 blank)) whole
     ∙ ap (λ ys. list ++ ys) (drop-replicate (length list) 10 blank)

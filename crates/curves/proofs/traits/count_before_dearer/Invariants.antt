@@ -1,4 +1,4 @@
-use Rattle.std.proofs.Common.{◌≡◌, ℕ, ◌-◌, ◌≤◌}
+use Rattle.std.proofs.Common.{ℕ, ◌-◌, ◌≤◌}
 use Rattle.curves.proofs.traits.count_before_dearer.Given as goal
 
 abbrev pub invariant-loop-done : goal.invariant-loop-done

@@ -8,8 +8,8 @@ use Rattle.hour.proofs.closing.declared_by.Goals as goal
 pub loop-unit-preserved : goal.loop-unit-preserved
 loop-unit-preserved c =
     let more = sum_by_more (declared_in c.args.plant) c.args.units.now c.loop-unit.unit-index (new_unit 0 0 None 0 0) c.loop-unit-test.true in (
-      omega (arith, more, c.loop-unit.invariant.0, c.declared-in-sum.ensures.value),
-      omega (arith, c.loop-unit.invariant.1, c.declared-in-sum.ensures.bound),
+      omega (arith, more, c.loop-unit.invariant.0, c.declared_in-sum.ensures.value),
+      omega (arith, c.loop-unit.invariant.1, c.declared_in-sum.ensures.bound),
     )
 
 pub returns : goal.returns

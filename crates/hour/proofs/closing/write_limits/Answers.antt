@@ -9,6 +9,6 @@ loop-i-preserved c =
     let lt : i < length row = omega arith in (
       below_more _ _
           (λ k below. let ne : k ≢ i = omega arith in get_or-set_other row i k _ 0 ne ∙ c.loop-i.invariant.0 k below)
-          (get_or-set_same row i _ 0 lt ∙ c.limit-in.ensures),
+          (get_or-set_same row i _ 0 lt ∙ c.limit_in.ensures),
       λ k past. let ne : k ≢ i = omega arith in get_or-set_other row i k _ 0 ne ∙ c.loop-i.invariant.1 k (omega arith),
     )

@@ -3,12 +3,12 @@ use Rattle.curves.specs.Limits.{read_energy}
 use Rattle.settlement.proofs.Quotients.{saved_le}
 use Rattle.settlement.proofs.payments.guaranteed_payment.Goals as goal
 
-pub overflow-mul-saved-2 : goal.overflow-mul-saved-2
-overflow-mul-saved-2 g c = omega (arith, saved_le c.min.result c.min-2.result c.args.saving (omega arith) (omega arith) (omega arith))
+pub overflow_mul-saved-2 : goal.overflow_mul-saved-2
+overflow_mul-saved-2 g c = omega (arith, saved_le c.min.result c.min-2.result c.args.saving (omega arith) (omega arith) (omega arith))
 
-pub overflow-add-result : goal.overflow-add-result
-overflow-add-result g c =
-    omega (arith, c.cost-between.ensures.bound, saved_le c.min.result c.min-2.result c.args.saving (omega arith) (omega arith) (omega arith))
+pub overflow_add-result : goal.overflow_add-result
+overflow_add-result g c =
+    omega (arith, c.cost_between.ensures.bound, saved_le c.min.result c.min-2.result c.args.saving (omega arith) (omega arith) (omega arith))
 
 pub returns : goal.returns
 returns g c =
@@ -16,9 +16,9 @@ returns g c =
     record {
       value = omega (
         arith,
-        c.cost-between.ensures.value,
+        c.cost_between.ensures.value,
         ap (λ x. x * c.min-2.result * c.args.saving) c.min.ensures,
         ap (λ x. energy * x * c.args.saving) c.min-2.ensures,
       );
-      bound = omega (arith, c.cost-between.ensures.bound, saved_le c.min.result c.min-2.result c.args.saving (omega arith) (omega arith) (omega arith));
+      bound = omega (arith, c.cost_between.ensures.bound, saved_le c.min.result c.min-2.result c.args.saving (omega arith) (omega arith) (omega arith));
     }

@@ -9,7 +9,7 @@ pub loop-commitment-preserved : goal.loop-commitment-preserved
 loop-commitment-preserved c =
     let none : Commitment = record { plant = 0; buyer = 0; volume = 0 } in
     let more = sum_by_more (bought_of c.args.buyer) c.args.commitments.now c.loop-commitment.commitment-index none c.loop-commitment-test.true in (
-      omega (arith, more, c.loop-commitment.invariant.0, c.bought-of.ensures),
+      omega (arith, more, c.loop-commitment.invariant.0, c.bought_of.ensures),
       omega (arith, c.loop-commitment.invariant.1),
     )
 

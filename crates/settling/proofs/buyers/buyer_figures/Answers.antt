@@ -6,24 +6,24 @@ use Rattle.table.specs.declared.records.BuyerFigures.{BuyerFigures}
 use Rattle.settling.specs.Stages.{share_of}
 use Rattle.settling.proofs.buyers.buyer_figures.Goals as goal
 
-pub overflow-sub-share : goal.overflow-sub-share
-overflow-sub-share c =
-    omega (arith, c.running-share.ensures, c.running-share-2.ensures, share_rises c.args.billed c.args.before c.args.upto c.args.total (omega arith))
+pub overflow_sub-share : goal.overflow_sub-share
+overflow_sub-share c =
+    omega (arith, c.running_share.ensures, c.running_share-2.ensures, share_rises c.args.billed c.args.before c.args.upto c.args.total (omega arith))
 
-pub overflow-cast-share : goal.overflow-cast-share
-overflow-cast-share c =
-    omega (arith, c.running-share.ensures, share_le c.args.billed c.args.upto c.args.total (omega arith))
+pub overflow_cast-share : goal.overflow_cast-share
+overflow_cast-share c =
+    omega (arith, c.running_share.ensures, share_le c.args.billed c.args.upto c.args.total (omega arith))
 
 pub returns : goal.returns
 returns c =
     let made = λ (s : ℕ) (n : ℤ). let f : BuyerFigures = record { share = s; net = n } in f in
-    let share : c.running-share.result - c.running-share-2.result ≡ share_of c.args.billed c.args.before c.args.upto c.args.total =
-    ap (λ x. x - c.running-share-2.result) c.running-share.ensures ∙ ap (λ x. running_share c.args.billed c.args.upto c.args.total - x) c.running-share-2.ensures in
-    ap (made (c.running-share.result - c.running-share-2.result)) (to_z-of_z_to w64 _ _ (sfits_of c.difference.type-inv) c.difference.ensures)
+    let share : c.running_share.result - c.running_share-2.result ≡ share_of c.args.billed c.args.before c.args.upto c.args.total =
+    ap (λ x. x - c.running_share-2.result) c.running_share.ensures ∙ ap (λ x. running_share c.args.billed c.args.upto c.args.total - x) c.running_share-2.ensures in
+    ap (made (c.running_share.result - c.running_share-2.result)) (to_z-of_z_to w64 _ _ (sfits_of c.difference.type_inv) c.difference.ensures)
     ∙ ap (λ s. made s (pos s -ℤ pos c.args.bought)) share
 
 pub difference-requires : goal.difference-requires
 difference-requires c = (
-  omega (arith, c.running-share.ensures, share_le c.args.billed c.args.upto c.args.total (omega arith)),
+  omega (arith, c.running_share.ensures, share_le c.args.billed c.args.upto c.args.total (omega arith)),
   omega arith,
 )

@@ -12,14 +12,14 @@ use Rattle.settling.proofs.buyers.settle_buyers.Goals as goal
 pub loop-i-init : goal.loop-i-init
 loop-i-init c = (λ k below. absurd (omega arith), λ k past. refl, sym (sum_none _), omega arith)
 
-pub buyer-figures-figures-requires : goal.buyer-figures-figures-requires
-buyer-figures-figures-requires c =
+pub buyer_figures-figures-requires : goal.buyer_figures-figures-requires
+buyer_figures-figures-requires c =
     let i = c.loop-i.i in
     let weight = λ (k : ℕ). buyer_weight (get_or c.args.buyers.now k (new_buyer 0)) in
-    let same : c.weight-of.result ≡ weight i = c.weight-of.ensures.value ∙ ap buyer_weight (c.loop-i.invariant.1 i (omega arith)) in
+    let same : c.weight_of.result ≡ weight i = c.weight_of.ensures.value ∙ ap buyer_weight (c.loop-i.invariant.1 i (omega arith)) in
     let prefix = sum_prefix weight (i + 1) c.args.n (omega arith) in (
       omega arith,
-      (omega arith, (omega (arith, same, sum_more i weight, prefix, c.loop-i.invariant.2, c.requires.1.1.1.1), c.bought-by-bought.ensures.bound)),
+      (omega arith, (omega (arith, same, sum_more i weight, prefix, c.loop-i.invariant.2, c.requires.1.1.1.1), c.bought_by-bought.ensures.bound)),
     )
 
 pub loop-i-preserved : goal.loop-i-preserved
@@ -31,19 +31,19 @@ loop-i-preserved c =
     let weight = λ (k : ℕ). buyer_weight (get_or start k none) in
     let lt : i < length buyers = omega arith in
     let was : get_or buyers i none ≡ get_or start i none = c.loop-i.invariant.1 i (omega arith) in
-    let same : c.weight-of.result ≡ weight i = c.weight-of.ensures.value ∙ ap buyer_weight was in
-    let upto : c.loop-i.before + c.weight-of.result ≡ weights_of (i + 1) start = omega (arith, same, sum_more i weight, c.loop-i.invariant.2) in
+    let same : c.weight_of.result ≡ weight i = c.weight_of.ensures.value ∙ ap buyer_weight was in
+    let upto : c.loop-i.before + c.weight_of.result ≡ weights_of (i + 1) start = omega (arith, same, sum_more i weight, c.loop-i.invariant.2) in
     let figures = λ (b u s : ℕ). buyer_figures_by c.args.billed b u c.args.total s in
-    let found : c.buyer-figures-figures.result ≡ figures (weights_of i start) (weights_of (i + 1) start) (bought_by (i + 1) c.args.commitments.now) =
-    c.buyer-figures-figures.ensures
-    ∙ ap (λ b. figures b (c.loop-i.before + c.weight-of.result) c.bought-by-bought.result) c.loop-i.invariant.2
-    ∙ ap (λ u. figures (weights_of i start) u c.bought-by-bought.result) upto
-    ∙ ap (figures (weights_of i start) (weights_of (i + 1) start)) c.bought-by-bought.ensures.value in
-    let wrote = c.write-figures.ensures ∙ ap (λ f. settled_buyer f (get_or buyers i none)) found in (
+    let found : c.buyer_figures-figures.result ≡ figures (weights_of i start) (weights_of (i + 1) start) (bought_by (i + 1) c.args.commitments.now) =
+    c.buyer_figures-figures.ensures
+    ∙ ap (λ b. figures b (c.loop-i.before + c.weight_of.result) c.bought_by-bought.result) c.loop-i.invariant.2
+    ∙ ap (λ u. figures (weights_of i start) u c.bought_by-bought.result) upto
+    ∙ ap (figures (weights_of i start) (weights_of (i + 1) start)) c.bought_by-bought.ensures.value in
+    let wrote = c.write_figures.ensures ∙ ap (λ f. settled_buyer f (get_or buyers i none)) found in (
       below_more _ _
           (λ k below. let ne : k ≢ i = omega arith in get_or-set_other buyers i k _ none ne ∙ c.loop-i.invariant.0 k below)
           (get_or-set_same buyers i _ none lt ∙ wrote ∙ ap (settled_buyer (figures (weights_of i start) (weights_of (i + 1) start) (bought_by (i + 1) c.args.commitments.now))) was),
       λ k past. let ne : k ≢ i = omega arith in get_or-set_other buyers i k _ none ne ∙ c.loop-i.invariant.1 k (omega arith),
       upto,
-      omega (arith, c.loop-i.invariant.3, c.weight-of.ensures.bound),
+      omega (arith, c.loop-i.invariant.3, c.weight_of.ensures.bound),
     )

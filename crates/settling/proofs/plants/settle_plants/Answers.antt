@@ -15,13 +15,13 @@ loop-i-preserved c =
     let figures = λ (p : Plant). figures_by c.args.header.now (to_z w64 (of_z w64 c.args.money)) (to_z w64 (of_z w64 c.args.over)) p totals in
     let lt : i < length plants = omega arith in
     let was : get_or plants i none ≡ get_or c.args.plants.now i none = c.loop-i.invariant.1 i (omega arith) in
-    let found : c.plant-figures-figures.result ≡ figures (get_or plants i none) =
-    c.plant-figures-figures.ensures
-    ∙ ap (figures_by c.args.header.now (to_z w64 (of_z w64 c.args.money)) (to_z w64 (of_z w64 c.args.over)) (get_or plants i none)) c.both-totals-totals.ensures.value in
-    let wrote : c.write-figures.new.plant ≡ settled_plant (figures (get_or plants i none)) (get_or plants i none) = c.write-figures.ensures ∙ ap (λ f. settled_plant f (get_or plants i none)) found in (
+    let found : c.plant_figures-figures.result ≡ figures (get_or plants i none) =
+    c.plant_figures-figures.ensures
+    ∙ ap (figures_by c.args.header.now (to_z w64 (of_z w64 c.args.money)) (to_z w64 (of_z w64 c.args.over)) (get_or plants i none)) c.both_totals-totals.ensures.value in
+    let wrote : c.write_figures.new.plant ≡ settled_plant (figures (get_or plants i none)) (get_or plants i none) = c.write_figures.ensures ∙ ap (λ f. settled_plant f (get_or plants i none)) found in (
       below_more _ _
           (λ k below. let ne : k ≢ i = omega arith in get_or-set_other plants i k _ none ne ∙ c.loop-i.invariant.0 k below)
-          (get_or-set_same plants i c.write-figures.new.plant none lt ∙ wrote ∙ ap (λ p. settled_plant (figures p) p) was),
+          (get_or-set_same plants i c.write_figures.new.plant none lt ∙ wrote ∙ ap (λ p. settled_plant (figures p) p) was),
       λ k past. let ne : k ≢ i = omega arith in get_or-set_other plants i k _ none ne ∙ c.loop-i.invariant.1 k (omega arith),
     )
 

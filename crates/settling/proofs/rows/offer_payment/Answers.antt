@@ -10,7 +10,7 @@ returns-then-place-offers g c = record {
 
 pub returns : goal.returns
 returns g c = record {
-  value = c.guaranteed-payment.ensures.value
+  value = c.guaranteed_payment.ensures.value
       ∙ sym (offer_at g.G.Curve.prices c.args.saving c.args.offers.now c.args.place c.args.billed c.args.feeds c.index-offers-place.result c.if-place-offers.false c.index-offers-place.is);
-  bound = c.guaranteed-payment.ensures.bound;
+  bound = c.guaranteed_payment.ensures.bound;
 }

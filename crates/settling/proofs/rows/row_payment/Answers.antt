@@ -10,7 +10,7 @@ returns-then-place-rows g c = record {
 
 pub returns : goal.returns
 returns g c = record {
-  value = c.competitive-payment.ensures.value
+  value = c.competitive_payment.ensures.value
       ∙ sym (row_at g.O.Curve.prices g.C.Curve.prices c.args.ceiling c.args.rows.now c.args.place c.args.unit.now c.index-rows-place.result c.if-place-rows.false c.index-rows-place.is);
-  bound = omega (arith, c.competitive-payment.ensures.bound);
+  bound = omega (arith, c.competitive_payment.ensures.bound);
 }

@@ -13,10 +13,10 @@ pub loop-i-preserved : goal.loop-i-preserved
 loop-i-preserved c =
     let i = c.loop-i.i in
     let sum = c.loop-i.sum in
-    let unit = c.counted-totals-unit.result in
+    let unit = c.counted_totals-unit.result in
     let below = c.loop-i.invariant.1 in
-    let small = c.counted-totals-unit.ensures.bound (c.requires.1.1.1 i c.loop-i-test.true) in (
-      c.plus-sum.ensures ∙ ap (λ s. plus_totals s unit) c.loop-i.invariant.0 ∙ ap (plus_totals _) c.counted-totals-unit.ensures.value
+    let small = c.counted_totals-unit.ensures.bound (c.requires.1.1.1 i c.loop-i-test.true) in (
+      c.plus-sum.ensures ∙ ap (λ s. plus_totals s unit) c.loop-i.invariant.0 ∙ ap (plus_totals _) c.counted_totals-unit.ensures.value
           ∙ totals_more c.args.plant c.args.units.now c.args.readings.now i,
       subst (AtMostOf (i + 1)) (sym c.plus-sum.ensures) record {
         billed = omega (arith, below.billed, small.billed);

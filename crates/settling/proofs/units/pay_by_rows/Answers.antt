@@ -17,11 +17,11 @@ loop-i-preserved g c =
     let lt : i < length units = omega arith in
     let pay = row_payment g.O.Curve.prices g.C.Curve.prices c.args.ceiling c.args.rows.now i in
     let was : get_or units i blank ≡ get_or c.args.units.now i blank = c.loop-i.invariant.1 i (omega arith) in
-    let paid : c.row-payment-payment.result ≡ pay (paid_of (loss_at plants (get_or units i blank).plant) (get_or units i blank) reading) =
-    c.row-payment-payment.ensures.value ∙ ap pay c.paid-unit-unit.ensures ∙ ap (λ l. pay (paid_of l (get_or units i blank) reading)) c.loss-of-loss.ensures in
-    let wrote : c.write-payment.new.unit ≡ paid_to (pay (paid_of (loss_at plants (get_or units i blank).plant) (get_or units i blank) reading)) (get_or units i blank) =
-    c.write-payment.ensures ∙ ap (λ p. paid_to p (get_or units i blank)) paid in
-    let here = get_or-set_same units i c.write-payment.new.unit blank lt in (
+    let paid : c.row_payment-payment.result ≡ pay (paid_of (loss_at plants (get_or units i blank).plant) (get_or units i blank) reading) =
+    c.row_payment-payment.ensures.value ∙ ap pay c.paid_unit-unit.ensures ∙ ap (λ l. pay (paid_of l (get_or units i blank) reading)) c.loss_of-loss.ensures in
+    let wrote : c.write_payment.new.unit ≡ paid_to (pay (paid_of (loss_at plants (get_or units i blank).plant) (get_or units i blank) reading)) (get_or units i blank) =
+    c.write_payment.ensures ∙ ap (λ p. paid_to p (get_or units i blank)) paid in
+    let here = get_or-set_same units i c.write_payment.new.unit blank lt in (
       below_more _ _
           (λ k below. let ne : k ≢ i = omega arith in get_or-set_other units i k _ blank ne ∙ c.loop-i.invariant.0 k below)
           (here ∙ wrote ∙ ap (λ u. paid_to (pay (paid_of (loss_at plants u.plant) u reading)) u) was),
@@ -29,8 +29,8 @@ loop-i-preserved g c =
       below_more _ _
           (λ k below.
           let ne : k ≢ i = omega arith in
-          subst (λ (u : UnitRecord). u.figures.payment ≤ 8609934590000000) (sym (get_or-set_other units i k c.write-payment.new.unit blank ne)) (c.loop-i.invariant.2 k below))
-          (subst (λ (u : UnitRecord). u.figures.payment ≤ 8609934590000000) (sym (here ∙ c.write-payment.ensures)) c.row-payment-payment.ensures.bound),
+          subst (λ (u : UnitRecord). u.figures.payment ≤ 8609934590000000) (sym (get_or-set_other units i k c.write_payment.new.unit blank ne)) (c.loop-i.invariant.2 k below))
+          (subst (λ (u : UnitRecord). u.figures.payment ≤ 8609934590000000) (sym (here ∙ c.write_payment.ensures)) c.row_payment-payment.ensures.bound),
     )
 
 pub returns : goal.returns

@@ -6,7 +6,7 @@ use Rattle.split.proofs.lines.unit_line.Goals as goal
 pub returns : goal.returns
 returns c =
     let numbers = c.args.numbers.now in (
-      vec_items c.in-ok-steps.steps,
-      ap (λ l. get_or numbers 0 0 ∷ l) c.in-ok-steps.ensures ∙ one_first numbers (search rules),
-      ap stepped_offer_made (sym c.as-slice.ensures.value) ∙ sym c.in-ok-offer.ensures.answer,
+      vec_items c.in_ok-steps.steps,
+      ap (λ l. get_or numbers 0 0 ∷ l) c.in_ok-steps.ensures ∙ one_first numbers (search rules),
+      ap stepped_offer_made (sym c.as_slice.ensures.value) ∙ sym c.in_ok-offer.ensures.answer,
     )

@@ -10,7 +10,7 @@ pub returns : goal.returns
 returns c =
     let table = c.args.self.now.table in
     let rises : NeverFalls (stepped_offer_price c.args.self.now) = λ i j _ le _. lifted_rises (take (read_count table.count) table.steps) 0 i j le in
-    let counted = c.count-before-dearer.ensures in
+    let counted = c.count_before_dearer.ensures in
     record {
       rises = rises;
       count = at_most (stepped_offer_price c.args.self.now) _ _ _ (omega arith) rises record {

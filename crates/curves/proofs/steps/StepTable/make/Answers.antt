@@ -12,9 +12,9 @@ pub returns : goal.returns
 returns c =
     let list = c.args.list.now in
     let reading = c.args.reading in
-    let good : bad_steps reading list ≡ false = or_from _ _ (sym c.if-is-empty.ensures) (or_from _ _ (le-ltb _ _ (omega arith))
-    (or_from _ _ (not_from_true _ (sym c.if-not-widths-fit.ensures)) (sym c.if-falls.ensures))) in
-    let prices : prices_fit list ≡ true = sym c.if-not-prices-fit.ensures in
+    let good : bad_steps reading list ≡ false = or_from _ _ (sym c.if-is_empty.ensures) (or_from _ _ (le-ltb _ _ (omega arith))
+    (or_from _ _ (not_from_true _ (sym c.if-not-widths_fit.ensures)) (sym c.if-falls.ensures))) in
+    let prices : prices_fit list ≡ true = sym c.if-not-prices_fit.ensures in
     let table = λ (steps : List Step). let t : StepTable = record { count = length list; steps = steps } in t in
     let accepted = λ (steps : List Step). let r : Result StepTable CurveRefusal = Ok (table steps) in r in
     record {

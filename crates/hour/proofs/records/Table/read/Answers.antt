@@ -9,7 +9,7 @@ returns c =
     let t = c.args.self.now in
     let reading = c.args.reading in
     record {
-      answer = c.take-reading.ensures.answer;
-      after = c.take-reading.ensures.after;
-      metered = λ rs m. subst (Metered (next_readings (view_of t) reading rs)) (sym c.take-reading.ensures.after) (reading_metered reading rs t m);
+      answer = c.take_reading.ensures.answer;
+      after = c.take_reading.ensures.after;
+      metered = λ rs m. subst (Metered (next_readings (view_of t) reading rs)) (sym c.take_reading.ensures.after) (reading_metered reading rs t m);
     }

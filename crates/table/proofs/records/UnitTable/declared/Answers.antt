@@ -13,5 +13,5 @@ returns c =
     let list = sum_take (declared_in plant) (new_unit 0 0 None 0 0) (blank_declares plant) t.units n in
     let whole : n - 0 ≡ n = omega arith in
     let units : n ≡ min (min t.count 128) c.args.rows = omega arith in
-    c.declared-by.ensures.value ∙ ap (λ m. sum_by (declared_in plant) (take m t.units)) whole ∙ list
+    c.declared_by.ensures.value ∙ ap (λ m. sum_by (declared_in plant) (take m t.units)) whole ∙ list
     ∙ ap (λ m. sum_of m (λ i. declared_in plant (unit_at t i))) units
