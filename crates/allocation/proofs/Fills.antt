@@ -1,10 +1,9 @@
 -- Filling units at the clearing price gives the merit order.
-use Rattle.std.proofs.Common.{◌≡◌, ℕ, zero, suc, ◌+◌, ◌-◌, ◌<◌, ◌≤◌, min, ◌⊎◌, refl, ap, ◌∙◌, inl, inr, ⊎_elim, arith}
+use Rattle.std.proofs.Common.{◌≡◌, ℕ, zero, suc, ◌+◌, ◌-◌, ◌<◌, ◌≤◌, min, refl, ap, ◌∙◌, inl, inr, ⊎_elim, arith}
 use Rattle.std.proofs.lemmas.Bool.{cases_lt, cases_eq}
-use Rattle.curves.specs.Prices.{AtMost}
 use Rattle.allocation.specs.Groups.{Group, sum_of, total}
 use Rattle.allocation.specs.Merit.{Before, MeritOrder}
-use Rattle.allocation.specs.Supply.{count_of, up_to, below, Parted, Clearing, Filled}
+use Rattle.allocation.specs.Supply.{up_to, below, Parted, Clearing, Filled}
 use Rattle.allocation.proofs.Sums.{sum_none, sum_more, sum_cong, sum_le}
 use Rattle.allocation.proofs.Counts.{count_le, count_rises, count_all, count_below, count_none, cheaper_first}
 

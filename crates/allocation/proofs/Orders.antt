@@ -1,9 +1,9 @@
 -- What follows from the merit order: the amounts are the only ones, nothing leaves less, nothing undercuts them, and a
 -- unit with limit 0 can be taken out.
-use Rattle.std.proofs.Common.{◌≡◌, ℕ, zero, suc, ◌+◌, ◌-◌, ◌*◌, ◌<◌, ◌≤◌, min, max, cond, ltb, ◌⊎◌, sym, refl, ap, ◌∙◌, inl, inr, ⊎_elim, add-zero, add-suc, mul-zero, mul-suc, mul-add, arith}
+use Rattle.std.proofs.Common.{◌≡◌, ℕ, zero, suc, ◌+◌, ◌-◌, ◌*◌, ◌<◌, ◌≤◌, max, ◌⊎◌, sym, refl, ap, ◌∙◌, inl, inr, ⊎_elim, add-zero, add-suc, mul-zero, mul-suc, mul-add, arith}
 use Rattle.std.proofs.lemmas.Bool.{cases_lt, cases_eq, cond-true, cond-false, lt-ltb, le-ltb}
 use Rattle.curves.specs.Prices.{cost_of}
-use Rattle.allocation.specs.Groups.{Group, sum_of, Within, total, cost}
+use Rattle.allocation.specs.Groups.{Group, sum_of, total}
 use Rattle.allocation.specs.Merit.{Before, MeritOrder}
 use Rattle.allocation.specs.Laws.{OnlyThese, NothingLeavesLess, NothingUndercuts, IdleUnitsDropOut, Split, uncovered, skip, without}
 use Rattle.allocation.proofs.Sums.{sum_cong, sum_le, some_less}

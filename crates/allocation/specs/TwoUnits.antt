@@ -1,5 +1,5 @@
 -- A worked example. Unit 1 offers 50 kWh at 300 and then 500, unit 2 offers 80 at 400 and then 500; both limits are 100.
-use Rattle.std.specs.Prelude.{◌≡◌, ℕ, List, [], ◌∷◌, replicate}
+use Rattle.std.specs.Prelude.{◌≡◌, ℕ, [], ◌∷◌, replicate}
 use Rattle.curves.specs.Steps.{step_price}
 use Rattle.curves.specs.declared.steps.Step.{Step}
 use Rattle.curves.specs.declared.stepped.SteppedOffer.{SteppedOffer}

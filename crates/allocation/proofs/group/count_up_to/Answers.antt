@@ -1,4 +1,3 @@
-use Rattle.curves.specs.Prices.{AtMost}
 use Rattle.allocation.specs.Groups.{price_at}
 use Rattle.allocation.proofs.Rows.{price_at_lem, at_most_same}
 use Rattle.allocation.proofs.group.count_up_to.Goals as goal

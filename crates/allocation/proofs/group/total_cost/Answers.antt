@@ -1,7 +1,7 @@
-use Rattle.std.proofs.Common.{◌≡◌, ℕ, ◌<◌, ◌≤◌, min, length, sym, ap, ◌∙◌, arith}
+use Rattle.std.proofs.Common.{◌≡◌, ℕ, ◌<◌, length, sym, arith}
 use Rattle.curves.specs.Limits.{read_energy}
 use Rattle.curves.specs.Prices.{cost_of}
-use Rattle.allocation.specs.Groups.{sum_of, price_at, amount_at}
+use Rattle.allocation.specs.Groups.{price_at, amount_at}
 use Rattle.allocation.proofs.Sums.{sum_none, sum_more}
 use Rattle.allocation.proofs.Rows.{price_at_lem, cost_same, cost_bound}
 use Rattle.allocation.proofs.group.total_cost.Goals as goal

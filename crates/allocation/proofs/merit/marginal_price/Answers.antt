@@ -1,4 +1,4 @@
-use Rattle.std.proofs.Common.{◌≡◌, ℕ, ◌+◌, ◌/◌, ◌≤◌, arith}
+use Rattle.std.proofs.Common.{◌≡◌, ◌+◌, ◌/◌, arith}
 use Rattle.allocation.specs.Groups.{units_of}
 use Rattle.allocation.proofs.Fills.{supply_rises}
 use Rattle.allocation.proofs.merit.marginal_price.Goals as goal

@@ -1,4 +1,4 @@
-use Rattle.std.proofs.Common.{◌≡◌, sym, arith}
+use Rattle.std.proofs.Common.{sym, arith}
 use Rattle.allocation.specs.Groups.{units_of}
 use Rattle.allocation.specs.Supply.{up_to}
 use Rattle.allocation.proofs.Sums.{sum_none, sum_more}

@@ -1,4 +1,4 @@
-use Rattle.std.proofs.Common.{◌≡◌, ℕ, ◌-◌, ◌*◌, ◌≤◌, sym, ap, ◌∙◌, mul-le-mul, arith}
+use Rattle.std.proofs.Common.{◌≡◌, ◌-◌, ◌*◌, ◌≤◌, sym, ap, ◌∙◌, mul-le-mul, arith}
 use Rattle.curves.specs.Limits.{read_energy, read_kwh}
 use Rattle.settlement.proofs.Sums.{between_flat}
 use Rattle.settlement.proofs.payments.cost_at.Goals as goal

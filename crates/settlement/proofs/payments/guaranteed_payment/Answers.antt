@@ -1,4 +1,4 @@
-use Rattle.std.proofs.Common.{◌≡◌, ◌*◌, ap, arith}
+use Rattle.std.proofs.Common.{◌*◌, ap, arith}
 use Rattle.curves.specs.Limits.{read_energy}
 use Rattle.settlement.proofs.Quotients.{saved_le}
 use Rattle.settlement.proofs.payments.guaranteed_payment.Goals as goal

@@ -1,4 +1,4 @@
-use Rattle.std.proofs.Common.{◌≡◌, ◌*◌, ◌/◌, ◌≤◌, ap, arith}
+use Rattle.std.proofs.Common.{◌*◌, ◌/◌, ap, arith}
 use Rattle.settlement.proofs.Quotients.{part_le}
 use Rattle.settlement.proofs.reference.at_reference.Goals as goal
 

@@ -1,4 +1,4 @@
-use Rattle.std.proofs.Common.{◌≡◌, ◌*◌, ◌/◌, ◌≤◌, refl, ap, ◌∙◌, arith}
+use Rattle.std.proofs.Common.{◌≡◌, ◌*◌, ◌/◌, refl, ap, ◌∙◌, arith}
 use Rattle.settlement.specs.Reference.{kept}
 use Rattle.settlement.proofs.Quotients.{parts_le}
 use Rattle.settlement.proofs.reference.limit.Goals as goal
