@@ -1,5 +1,5 @@
 -- The law of a closed hour follows from what closing does and the history that the table stood for.
-use Rattle.std.proofs.Common.{◌≡◌, ℕ, ◌+◌, ◌-◌, ◌<◌, ◌≤◌, min, Bool, true, false, cond, not, ◌&&◌, eqb, ltb, List, length, sym, refl, ap, ◌∙◌, subst, ⊎_elim, arith}
+use Rattle.std.proofs.Common.{◌≡◌, ℕ, ◌+◌, ◌-◌, ◌<◌, ◌≤◌, min, cond, not, eqb, ltb, List, length, sym, ap, ◌∙◌, subst, ⊎_elim, arith}
 use mathlib.Core.Path.{fun_ext}
 use Rattle.std.proofs.lemmas.Bool.{cases_eq, cases_lt, eq-eqb, ne_eqb, lt-ltb, le-ltb, cond-true, cond-false, and_from, and_left, and_right}
 use Rattle.allocation.specs.Groups.{Group, price_at, sum_of}
@@ -9,9 +9,9 @@ use Rattle.curves.specs.Limits.{read_energy}
 use Rattle.settlement.specs.Shares.{group_one_share}
 use Rattle.hour.proofs.Views.{view_same}
 use Rattle.hour.specs.Entries.{View}
-use Rattle.hour.specs.Closing.{counts, limit_in, declared_in, unit_at, plant_at, plant_group, declared_by, committed_by, share_one, share_two, Allotted, PlantResult, Closed}
-use Rattle.hour.specs.ClosingLaw.{group_in, declared_total, share_one_in, share_two_in, amount_in, PlantLaw, ClosingLaw}
-use Rattle.hour.specs.History.{units_in, unit_in, loss_in, sold_in, plants_in, UnitsStand, Stands}
+use Rattle.hour.specs.Closing.{limit_in, declared_in, unit_at, plant_at, plant_group, declared_by, committed_by, share_one, share_two, Allotted, Closed}
+use Rattle.hour.specs.ClosingLaw.{group_in, declared_total, share_one_in, share_two_in, amount_in, ClosingLaw}
+use Rattle.hour.specs.History.{units_in, unit_in, loss_in, sold_in, UnitsStand, Stands}
 use Rattle.hour.specs.declared.entries.Entry.{Entry}
 use Rattle.hour.specs.declared.records.Plant.{Plant}
 use Rattle.hour.specs.declared.records.Table.{Table}

@@ -2,7 +2,6 @@
 use Rattle.std.proofs.Common.{◌≡◌, ℕ, min, List, take, ap, ◌∙◌, arith}
 use mathlib.Core.Path.{fun_ext}
 use Rattle.hour.specs.Entries.{View, view_of, rows, sold_by}
-use Rattle.hour.specs.Effects.{unless, answer_of}
 use Rattle.hour.specs.History.{plants_in, units_in, buyers_in, commitments_in, sold_in, view_in, Stands}
 use Rattle.hour.specs.declared.entries.Entry.{Entry}
 use Rattle.hour.specs.declared.records.Table.{Table}

@@ -1,5 +1,5 @@
 -- What an entry answers, and what the table then holds.
-use Rattle.std.specs.Prelude.{ℕ, ◌+◌, Bool, true, false, cond, List, [], ◌∷◌, Some, None, Ok, Err, Option, Result, ◌==◌, slice_set}
+use Rattle.std.specs.Prelude.{ℕ, ◌+◌, true, false, cond, List, Some, None, Ok, Err, Option, Result, ◌==◌, slice_set}
 use Rattle.hour.specs.Entries.{rows, view_of}
 use Rattle.hour.specs.Rows.{new_plant, new_unit, new_buyer, corrected, moved, added, changed}
 use Rattle.hour.specs.declared.entries.Entry.{Entry}

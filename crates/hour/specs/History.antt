@@ -1,5 +1,5 @@
 -- What the accepted entries of an hour say, by themselves. A history is the list of accepted entries, the newest first.
-use Rattle.std.specs.Prelude.{◌≡◌, ℕ, ◌+◌, ◌<◌, ◌≤◌, Bool, true, false, cond, ◌&&◌, List, [], ◌∷◌, length, take, replicate, Some, None, Option, ◌==◌, slice_index_or}
+use Rattle.std.specs.Prelude.{◌≡◌, ℕ, ◌+◌, ◌<◌, ◌≤◌, true, false, cond, ◌&&◌, List, [], ◌∷◌, length, take, replicate, Some, None, ◌==◌, slice_index_or}
 use Rattle.hour.specs.Closing.{unit_at}
 use Rattle.hour.specs.Effects.{unless}
 use Rattle.hour.specs.Entries.{View, rows, sold_by}

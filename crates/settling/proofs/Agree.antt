@@ -1,14 +1,11 @@
 -- Ledgers that agree on the rows that are there give the same figures.
-use Rattle.std.proofs.Common.{◌≡◌, ℕ, ◌+◌, ◌-◌, ◌*◌, ◌<◌, ◌≤◌, List, ℤ, pos, ◌-ℤ◌, unwrap_or, sym, refl, ap, ◌∙◌, arith}
+use Rattle.std.proofs.Common.{◌≡◌, ℕ, ◌+◌, ◌*◌, ◌<◌, ◌≤◌, ℤ, pos, ◌-ℤ◌, unwrap_or, ap, ◌∙◌, arith}
 use Rattle.allocation.specs.Groups.{sum_of}
 use Rattle.allocation.proofs.Sums.{sum_cong}
 use Rattle.settlement.specs.Shares.{weight_of}
 use Rattle.settlement.specs.Support.{day_support, rate_of, support_cost}
-use Rattle.table.specs.declared.records.BuyerFigures.{BuyerFigures}
-use Rattle.table.specs.declared.records.Commitment.{Commitment}
-use Rattle.table.specs.declared.records.HourFigures.{HourFigures}
 use Rattle.table.specs.declared.records.PlantFigures.{PlantFigures}
-use Rattle.settling.specs.Figures.{Pay, sum_units, of_plant, billed_unit, active_unit, opportunity_unit, penalty_unit, volumes, bought_by, hour_money, hour_over, plant_figures, weight_in, weights_to, shares_to, share_in, buyer_figures, unassigned_in, hour_figures}
+use Rattle.settling.specs.Figures.{Pay, sum_units, of_plant, billed_unit, active_unit, opportunity_unit, penalty_unit, volumes, bought_by, hour_money, hour_over, plant_figures, weight_in, weights_to, buyer_figures, hour_figures}
 use Rattle.settling.specs.Ledger.{UnitCase, PlantCase, BuyerCase, Ledger}
 use Rattle.settling.specs.Stages.{hour_by, buyer_figures_by}
 use Rattle.settling.specs.declared.header.Header.{Header}

@@ -1,19 +1,17 @@
 -- What the units come to when they are settled are the sums of the ledger's figures.
-use Rattle.std.proofs.Common.{◌≡◌, ℕ, ◌+◌, ◌<◌, min, Bool, true, false, cond, eqb, List, get_or, Some, None, Option, sym, refl, ap, ◌∙◌, arith}
+use Rattle.std.proofs.Common.{◌≡◌, ℕ, ◌+◌, ◌<◌, min, Bool, true, false, cond, eqb, List, get_or, Some, None, Option, refl, ap, ◌∙◌}
 use Rattle.allocation.specs.Groups.{sum_of}
 use Rattle.allocation.proofs.Sums.{sum_cong}
 use Rattle.settlement.specs.Support.{active_of}
 use Rattle.table.specs.Closing.{unit_at}
-use Rattle.table.specs.Rows.{new_unit}
 use Rattle.table.specs.declared.records.Plant.{Plant}
 use Rattle.table.specs.declared.records.UnitFigures.{UnitFigures}
 use Rattle.table.specs.declared.records.UnitReading.{UnitReading}
 use Rattle.table.specs.declared.records.UnitRecord.{UnitRecord}
 use Rattle.table.specs.declared.records.UnitTable.{UnitTable}
-use Rattle.settling.specs.Figures.{bill_in, of_plant, unit_figures}
+use Rattle.settling.specs.Figures.{bill_in}
 use Rattle.settling.specs.Ledger.{UnitCase, case_at, adjustments_of, control_of}
 use Rattle.settling.specs.Settled.{GroupSettled}
-use Rattle.settling.specs.Stages.{group_totals}
 use Rattle.settling.specs.Totals.{unit_totals, counted, counted_totals, no_totals}
 use Rattle.settling.specs.declared.totals.Totals.{Totals}
 

@@ -1,11 +1,10 @@
 -- The ledger of a table that stands for a history is the one that the history gives.
 use Rattle.std.proofs.Common.{◌≡◌, ℕ, ◌+◌, ◌-◌, ◌<◌, ◌≤◌, min, List, get_or, take, None, Option, sym, refl, ap, ◌∙◌, arith}
-use Rattle.table.proofs.Accepted.{Placed, units_placed}
+use Rattle.table.proofs.Accepted.{units_placed}
 use Rattle.table.specs.Closing.{unit_at, plant_at}
 use Rattle.table.specs.ClosingLaw.{ClosingLaw}
-use Rattle.table.specs.History.{plants_in, loss_in, sold_in, units_in, unit_in, Proper, UnitsStand, PlantsStand, Stands}
+use Rattle.table.specs.History.{plants_in, loss_in, units_in, unit_in, Proper, UnitsStand, PlantsStand, Stands}
 use Rattle.table.specs.Metered.{Metered, last_competitive, last_guaranteed}
-use Rattle.table.specs.Rows.{new_plant, new_buyer}
 use Rattle.table.specs.declared.entries.Entry.{Entry}
 use Rattle.table.specs.declared.readings.Reading.{Reading}
 use Rattle.table.specs.declared.records.Plant.{Plant}
@@ -15,7 +14,7 @@ use Rattle.table.specs.declared.records.UnitRecord.{UnitRecord}
 use Rattle.table.specs.declared.records.UnitTable.{UnitTable}
 use Rattle.settling.proofs.Agree.{Agree}
 use Rattle.settling.specs.Derived.{ledger_in, found_in}
-use Rattle.settling.specs.Ledger.{UnitCase, PlantCase, BuyerCase, Ledger, ledger_of, loss_at, case_at, table_of}
+use Rattle.settling.specs.Ledger.{UnitCase, PlantCase, BuyerCase, ledger_of, loss_at, case_at}
 
 -- records are equal where their parts are
 unit_same : (a b : UnitCase) → a.plant ≡ b.plant → a.loss ≡ b.loss → a.internal ≡ b.internal → a.feeds ≡ b.feeds → a.allocated ≡ b.allocated → a.reading ≡ b.reading → a ≡ b

@@ -1,10 +1,10 @@
 -- Net purchases add up: shares are differences of a running share, and each commitment names one buyer.
-use Rattle.std.proofs.Common.{◌≡◌, ℕ, zero, suc, ◌+◌, ◌-◌, ◌<◌, ◌≤◌, cond, eqb, List, [], ◌∷◌, ℤ, pos, ◌+ℤ◌, ◌-ℤ◌, sum_by, sym, refl, ap, ◌∙◌, ⊎_elim, add-one, arith}
+use Rattle.std.proofs.Common.{◌≡◌, ℕ, zero, suc, ◌+◌, ◌<◌, ◌≤◌, cond, eqb, List, [], ◌∷◌, pos, ◌-ℤ◌, sym, refl, ap, ◌∙◌, ⊎_elim, add-one, arith}
 use Rattle.std.proofs.lemmas.Int.{ints}
 use Rattle.std.proofs.lemmas.List.Sums.{sum_by-cons}
 use Rattle.std.proofs.lemmas.Bool.{cases_eq, eq-eqb, ne_eqb, cond-true, cond-false}
 use Rattle.allocation.specs.Groups.{sum_of}
-use Rattle.allocation.proofs.Sums.{sum_none, sum_more, sum_cong}
+use Rattle.allocation.proofs.Sums.{sum_none, sum_cong}
 use Rattle.settlement.proofs.Running.{share_none, share_whole, share_rises}
 use Rattle.settlement.specs.Shares.{running_share}
 use Rattle.table.proofs.Accepted.{AllNamed}

@@ -8,7 +8,7 @@ use Rattle.table.specs.declared.entries.Entry.{Entry}
 use Rattle.table.specs.declared.readings.Reading.{Reading}
 use Rattle.table.specs.declared.records.Table.{Table}
 use Rattle.table.specs.declared.records.UnitReading.{UnitReading}
-use Rattle.settling.specs.Figures.{sum_units, billed_unit, volumes, net_in, unassigned_in}
+use Rattle.settling.specs.Figures.{sum_units, billed_unit, volumes}
 use Rattle.settling.specs.Ledger.{Ledger, table_of}
 
 -- a unit's last accepted reading, by its group and number

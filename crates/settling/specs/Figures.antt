@@ -1,5 +1,5 @@
 -- The figures of a settled hour: functions of its header, its ledger and the price rows.
-use Rattle.std.specs.Prelude.{ℕ, zero, suc, ◌+◌, ◌-◌, ◌*◌, Bool, true, cond, List, [], ◌∷◌, ℤ, pos, ◌-ℤ◌, Some, None, sum_by, Option, ◌==◌}
+use Rattle.std.specs.Prelude.{ℕ, zero, suc, ◌+◌, ◌-◌, ◌*◌, cond, List, [], ◌∷◌, ℤ, pos, ◌-ℤ◌, sum_by, ◌==◌}
 use Rattle.std.specs.Option.{unwrap_or}
 use Rattle.allocation.specs.Groups.{sum_of}
 use Rattle.settlement.specs.Payments.{competitive_payment, guaranteed_payment}
@@ -12,7 +12,7 @@ use Rattle.table.specs.declared.records.Commitment.{Commitment}
 use Rattle.table.specs.declared.records.HourFigures.{HourFigures}
 use Rattle.table.specs.declared.records.PlantFigures.{PlantFigures}
 use Rattle.table.specs.declared.records.UnitFigures.{UnitFigures}
-use Rattle.settling.specs.Ledger.{UnitCase, PlantCase, BuyerCase, Ledger, energies_of, adjustments_of, control_of}
+use Rattle.settling.specs.Ledger.{UnitCase, Ledger, energies_of, adjustments_of, control_of}
 use Rattle.settling.specs.declared.header.Header.{Header}
 use Rattle.settling.specs.declared.rows.PriceRow.{PriceRow}
 

@@ -1,5 +1,5 @@
 -- An hour's header: which values are turned down.
-use Rattle.std.specs.Prelude.{ℕ, Bool, cond, ◌||◌, Ok, Err, Result, nat_lt}
+use Rattle.std.specs.Prelude.{Bool, cond, ◌||◌, Ok, Err, Result, nat_lt}
 use Rattle.table.specs.declared.refusals.BookRefusal.{BookRefusal}
 use Rattle.table.specs.declared.refusals.BookRefusal.TheVariants.{Price}
 use Rattle.settling.specs.declared.header.Header.{Header}

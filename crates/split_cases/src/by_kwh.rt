@@ -15,7 +15,7 @@ impl Outcome {
     /// The outcome of taking one kWh after the other, the cheapest first.
     pub(crate) fn by_kwh(heap: Global, case: &Case) -> Result<Outcome, AllocError> {
         let mut left = all_kwh(heap, case.units.as_slice())?;
-        left.sort();
+        left.sort()?;
         let mut outcome = Outcome {
             amounts: vec![in heap; 0u32; case.units.len()]?,
             cost: 0,

@@ -1,10 +1,9 @@
 -- The group that closing splits over is the plant's.
-use Rattle.std.proofs.Common.{◌≡◌, ℕ, ◌<◌, ◌≤◌, min, cond, ltb, List, length, get_or, replicate, sym, ap, ◌∙◌, subst, ⊎_elim, arith}
+use Rattle.std.proofs.Common.{◌≡◌, ℕ, ◌<◌, ◌≤◌, min, cond, ltb, List, length, get_or, replicate, sym, ap, ◌∙◌, ⊎_elim, arith}
 use mathlib.Core.Path.{fun_ext}
 use Rattle.std.proofs.lemmas.List.{get_or-replicate, get_or_past, length-replicate}
 use Rattle.std.proofs.lemmas.Bool.{cases_lt, lt-ltb, le-ltb, cond-true, cond-false}
-use Rattle.allocation.specs.Groups.{Group, group_of, price_at, amount_at}
-use Rattle.allocation.specs.Laws.{Split}
+use Rattle.allocation.specs.Groups.{Group, group_of, price_at}
 use Rattle.curves.specs.Limits.{read_energy}
 use Rattle.table.specs.Closing.{limit_in, unit_at, plant_group}
 use Rattle.table.specs.declared.records.UnitTable.{UnitTable}

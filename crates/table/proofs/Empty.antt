@@ -1,8 +1,8 @@
 -- An empty table stands for no entries and no readings.
-use Rattle.std.proofs.Common.{◌≡◌, ℕ, ◌+◌, ◌<◌, List, [], length, get_or, take, replicate, None, Option, refl, ap, ◌∙◌, arith}
+use Rattle.std.proofs.Common.{ℕ, [], None, Option, refl, ap, arith}
 use Rattle.std.proofs.lemmas.List.{get_or-replicate, length-replicate}
-use Rattle.table.specs.History.{UnitsStand, Stands, empty_units, empty_table, units_in}
-use Rattle.table.specs.Metered.{Metered, last_use}
+use Rattle.table.specs.History.{UnitsStand, Stands, empty_units, empty_table}
+use Rattle.table.specs.Metered.{Metered}
 use Rattle.table.specs.Rows.{new_unit, new_plant, new_buyer}
 use Rattle.table.specs.declared.records.Buyer.{Buyer}
 use Rattle.table.specs.declared.records.Commitment.{Commitment}

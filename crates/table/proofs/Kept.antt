@@ -1,13 +1,13 @@
 -- What closing, readings and entries leave as it was.
-use Rattle.std.proofs.Common.{◌≡◌, ℕ, ◌+◌, ◌-◌, ◌<◌, ◌≤◌, min, true, false, cond, eqb, List, [], length, get_or, set, Some, None, Option, sym, refl, ap, ◌∙◌, subst, ⊎_elim, arith}
+use Rattle.std.proofs.Common.{◌≡◌, ℕ, ◌+◌, ◌-◌, ◌<◌, ◌≤◌, true, false, eqb, List, [], length, get_or, set, Some, None, Option, sym, refl, ap, ◌∙◌, subst, ⊎_elim, arith}
 use Rattle.std.proofs.lemmas.List.{get_or-set_same, get_or-set_other, get_or_past, length-set}
 use Rattle.std.proofs.lemmas.Bool.{cases_eq, cases_lt, cond_both}
-use Rattle.table.specs.Closing.{SameUnits, Closed, plant_at}
+use Rattle.table.specs.Closing.{SameUnits, Closed}
 use Rattle.table.specs.ClosingLaw.{PlantLaw, ClosingLaw}
 use Rattle.table.specs.Effects.{unless, in_group, applied, after_entry, with_competitive, with_guaranteed}
 use Rattle.table.specs.Entries.{rows, view_of}
-use Rattle.table.specs.History.{plants_in, BuyersStand, CommitmentsStand, UnitsStand, Stands}
-use Rattle.table.specs.Metered.{last_use, Metered}
+use Rattle.table.specs.History.{BuyersStand, CommitmentsStand, UnitsStand, Stands}
+use Rattle.table.specs.Metered.{Metered}
 use Rattle.table.specs.Readings.{reading_rows, applied_reading, after_reading}
 use Rattle.table.specs.Rows.{new_buyer, read_use, changed, corrected, moved}
 use Rattle.table.specs.declared.entries.Entry.{Entry}

@@ -1,12 +1,12 @@
 -- A table goes on standing for the history of its accepted entries.
-use Rattle.std.proofs.Common.{◌≡◌, ℕ, ◌+◌, ◌-◌, ◌<◌, ◌≤◌, min, Bool, true, false, cond, ◌&&◌, ◌||◌, eqb, ltb, leb, ◌≢◌, List, [], ◌∷◌, ◌++◌, length, get_or, take, set, Some, None, Option, sym, refl, ap, ◌∙◌, subst, ⊎_elim, arith, length-append}
-use Rattle.std.proofs.lemmas.List.{get_or-set_same, get_or-set_other, length-set, take_more, take_more_set}
+use Rattle.std.proofs.Common.{◌≡◌, ℕ, ◌+◌, ◌-◌, ◌<◌, ◌≤◌, min, Bool, true, false, cond, ◌&&◌, ◌||◌, eqb, ltb, leb, List, [], ◌∷◌, ◌++◌, length, get_or, set, Some, None, Option, sym, refl, ap, ◌∙◌, subst, ⊎_elim, arith, length-append}
+use Rattle.std.proofs.lemmas.List.{get_or-set_same, get_or-set_other, length-set, take_more_set}
 use Rattle.std.proofs.lemmas.Bool.{cases_eq, eq-eqb, ne_eqb, cond-true, cond-false, leb-false, ltb-false, eqb-false, or_parts, true≢false}
 use Rattle.table.proofs.Views.{rows_same}
 use Rattle.table.specs.Closing.{unit_at, terms_of}
 use Rattle.table.specs.Effects.{in_group, applied, after_entry, unless}
-use Rattle.table.specs.Entries.{sold_by, lacks, lacks_unit, rows, view_of}
-use Rattle.table.specs.History.{adds_plant, adds_unit, adds_buyer, plants_in, units_in, buyers_in, commitments_of, loss_in, buyer_loss_in, unit_in, UnitsStand, PlantsStand, BuyersStand, CommitmentsStand, Stands, view_in, next_history, accepted}
+use Rattle.table.specs.Entries.{lacks, lacks_unit, rows, view_of}
+use Rattle.table.specs.History.{adds_plant, adds_unit, adds_buyer, plants_in, units_in, buyers_in, commitments_of, loss_in, buyer_loss_in, unit_in, UnitsStand, PlantsStand, BuyersStand, CommitmentsStand, Stands, view_in, next_history}
 use Rattle.table.specs.Rows.{new_plant, new_buyer, new_unit, added, changed, corrected, moved}
 use Rattle.table.specs.declared.entries.Entry.{Entry}
 use Rattle.table.specs.declared.entries.Entry.TheVariants.{AddPlant, AddCompetitive, AddGuaranteed, Correct, PutAside, TakeBack, AddBuyer, Commit}

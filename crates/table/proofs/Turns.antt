@@ -1,5 +1,5 @@
 -- Lists of calls made in turn: what the table then stands for, and what each answers.
-use Rattle.std.proofs.Common.{◌≡◌, ℕ, ◌+◌, ◌<◌, List, [], ◌∷◌, ◌++◌, length, get_or, take, Ok, Err, sym, refl, ap, ◌∙◌, subst, arith}
+use Rattle.std.proofs.Common.{◌≡◌, ℕ, ◌+◌, ◌<◌, List, [], ◌∷◌, ◌++◌, length, get_or, take, Ok, Err, sym, refl, ap, ◌∙◌, subst}
 use Rattle.std.proofs.lemmas.List.{take_more}
 use Rattle.table.proofs.Kept.{entry_unread, reading_stands, reading_law}
 use Rattle.table.proofs.Meters.{reading_metered}
@@ -7,7 +7,7 @@ use Rattle.table.proofs.Standing.{entry_stands}
 use Rattle.table.proofs.Views.{view_same}
 use Rattle.table.specs.ClosingLaw.{ClosingLaw}
 use Rattle.table.specs.Effects.{unless, number_of, answer_of, after_entry, after_entries}
-use Rattle.table.specs.Entries.{View, rows, view_of}
+use Rattle.table.specs.Entries.{rows}
 use Rattle.table.specs.History.{Stands, view_in, accepted, next_history, number_in, answer_in}
 use Rattle.table.specs.Metered.{Metered, next_readings, accepted_readings, reading_answer_in}
 use Rattle.table.specs.Readings.{reading_rows, reading_number, reading_answer, after_reading, after_readings}

@@ -2,7 +2,6 @@
 use Rattle.std.proofs.Common.{◌≡◌, ℕ, min, List, length, take, ap, ◌∙◌, arith}
 use mathlib.Core.Path.{fun_ext}
 use Rattle.table.specs.Entries.{View, view_of, rows, sold_by}
-use Rattle.table.specs.Effects.{unless, answer_of}
 use Rattle.table.specs.History.{plants_in, units_in, buyers_in, commitments_of, sold_in, view_in, Stands}
 use Rattle.table.specs.declared.entries.Entry.{Entry}
 use Rattle.table.specs.declared.records.Table.{Table}

@@ -1,5 +1,5 @@
 -- Entries: which row of the table of refusals turns one down, by what was entered before.
-use Rattle.std.specs.Prelude.{ℕ, ◌+◌, min, Bool, true, cond, not, ◌&&◌, ◌||◌, List, [], ◌∷◌, take, Some, None, Option, ◌==◌, nat_le, nat_lt}
+use Rattle.std.specs.Prelude.{ℕ, ◌+◌, min, Bool, true, cond, ◌||◌, List, [], ◌∷◌, take, Some, None, Option, ◌==◌, nat_le, nat_lt}
 use Rattle.table.specs.declared.entries.Entry.{Entry}
 use Rattle.table.specs.declared.entries.Entry.TheVariants.{AddPlant, AddCompetitive, AddGuaranteed, Correct, PutAside, TakeBack, AddBuyer, Commit}
 use Rattle.table.specs.declared.records.Commitment.{Commitment}

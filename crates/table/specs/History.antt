@@ -1,5 +1,5 @@
 -- What the accepted entries of an hour say, by themselves. A history is the list of accepted entries, the newest first.
-use Rattle.std.specs.Prelude.{◌≡◌, ℕ, ◌+◌, ◌<◌, ◌≤◌, Bool, true, false, cond, ◌&&◌, List, [], ◌∷◌, ◌++◌, length, take, replicate, Some, None, Ok, Err, Option, Result, ◌==◌, slice_index_or}
+use Rattle.std.specs.Prelude.{◌≡◌, ℕ, ◌+◌, ◌<◌, ◌≤◌, true, false, cond, ◌&&◌, List, [], ◌∷◌, ◌++◌, length, take, replicate, Some, None, Ok, Err, Result, ◌==◌, slice_index_or}
 use Rattle.table.specs.Closing.{unit_at, terms_of}
 use Rattle.table.specs.Effects.{unless}
 use Rattle.table.specs.Entries.{View, rows, sold_by}

@@ -1,5 +1,4 @@
-use Rattle.std.proofs.Common.{◌≡◌, ◌+◌, ◌*◌, ◌≤◌, drop, arith}
-use Rattle.hour.specs.Entries.{sold_by}
+use Rattle.std.proofs.Common.{arith}
 use Rattle.hour.specs.declared.records.Commitment.{Commitment}
 use Rattle.hour.proofs.Sold.{sold_here, sold_other, sold_all}
 use Rattle.hour.proofs.entries.sold_by.Goals as goal

@@ -1,7 +1,6 @@
-use Rattle.std.proofs.Common.{◌≡◌, ℕ, ◌+◌, ◌<◌, min, get_or, ℤ, pos, ◌-ℤ◌, Some, None, refl, ap, ◌∙◌, arith, w64, to_z, of_z}
+use Rattle.std.proofs.Common.{◌≡◌, ℕ, ◌+◌, min, ℤ, pos, ◌-ℤ◌, Some, None, refl, ap, ◌∙◌, arith, w64, to_z, of_z}
 use borrow.Author.Rules.{to_z-of_z_to, sfits_of}
 use Rattle.table.specs.Closing.{plant_at}
-use Rattle.table.specs.declared.records.Plant.{Plant}
 use Rattle.settling.specs.Figures.{volumes, bought_by}
 use Rattle.settling.specs.Settled.{settled_plant, settled_buyer, buyer_at}
 use Rattle.settling.specs.Stages.{both_totals, money_of, figures_by, buyer_figures_by, weights_of, hour_by, sold_of}

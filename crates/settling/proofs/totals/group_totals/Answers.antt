@@ -1,5 +1,5 @@
-use Rattle.std.proofs.Common.{◌≡◌, ◌+◌, sym, ap, ◌∙◌, subst, arith}
-use Rattle.settling.specs.Totals.{plus_totals, counted_totals, AtMostOf}
+use Rattle.std.proofs.Common.{◌+◌, sym, ap, ◌∙◌, subst, arith}
+use Rattle.settling.specs.Totals.{plus_totals, AtMostOf}
 use Rattle.settling.proofs.Groups.{totals_none, totals_more}
 use Rattle.settling.proofs.totals.group_totals.Goals as goal
 

@@ -1,5 +1,4 @@
-use Rattle.std.proofs.Common.{◌≡◌, ◌+◌, ◌*◌, ◌≤◌, drop, arith}
-use Rattle.table.specs.Entries.{sold_by}
+use Rattle.std.proofs.Common.{arith}
 use Rattle.table.specs.declared.records.Commitment.{Commitment}
 use Rattle.table.proofs.Sold.{sold_here, sold_other, sold_all}
 use Rattle.table.proofs.entries.sold_by.Goals as goal

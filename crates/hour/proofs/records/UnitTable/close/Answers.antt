@@ -1,4 +1,4 @@
-use Rattle.std.proofs.Common.{◌≡◌, ℕ, ◌<◌, ◌≤◌, min, length, refl, ◌∙◌, subst, arith}
+use Rattle.std.proofs.Common.{refl, ◌∙◌, subst, arith}
 use Rattle.allocation.specs.Groups.{amount_at}
 use Rattle.allocation.specs.Laws.{Split}
 use Rattle.hour.proofs.Closings.{group_same, zero_row}

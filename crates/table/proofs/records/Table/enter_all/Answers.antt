@@ -1,4 +1,4 @@
-use Rattle.std.proofs.Common.{◌≡◌, ◌<◌, get_or, take, ap, ◌∙◌, arith, below_more}
+use Rattle.std.proofs.Common.{get_or, ap, ◌∙◌, arith, below_more}
 use Rattle.std.proofs.lemmas.List.{take_all}
 use Rattle.table.specs.Effects.{answer_of, after_entries}
 use Rattle.table.specs.declared.entries.Entry.TheVariants.{AddPlant}

@@ -1,4 +1,4 @@
-use Rattle.std.proofs.Common.{◌≡◌, ◌<◌, get_or, take, ap, ◌∙◌, arith, below_more}
+use Rattle.std.proofs.Common.{get_or, ap, ◌∙◌, arith, below_more}
 use Rattle.std.proofs.lemmas.List.{take_all}
 use Rattle.table.specs.Readings.{reading_answer, after_readings}
 use Rattle.table.specs.declared.readings.Reading.TheVariants.{Use}
