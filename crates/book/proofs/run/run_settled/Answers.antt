@@ -20,4 +20,9 @@ returns g c =
     let pay = λ (h : Header). pay_by g.P.Curve.prices g.C.Curve.prices c.args.rows.now g.H.Curve.prices c.args.offers.now h in
     let settled = subst (λ h. Settled h (pay h) t after) c.run_closed-hour.ensures.header c.settle.ensures in
     let law = run_settled_law entries prices1 offers prices2 guaranteed header (pay header) readings t after c.run_closed-hour.ensures.stands c.run_closed-hour.ensures.metered c.run_closed-hour.ensures.law settled in
-    (c.run_closed-hour.ensures.judged, (c.run_closed-hour.ensures.read, (law, run_settled_only entries prices1 offers prices2 guaranteed header (pay header) readings after law)))
+    record {
+      judged = c.run_closed-hour.ensures.judged;
+      read = c.run_closed-hour.ensures.read;
+      law = law;
+      only = run_settled_only entries prices1 offers prices2 guaranteed header (pay header) readings after law;
+    }
