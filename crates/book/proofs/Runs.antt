@@ -1,5 +1,5 @@
 -- What lists of calls lead to, from an empty hour on.
-use Rattle.std.proofs.Common.{◌≡◌, ℕ, ◌<◌, ◌≤◌, List, [], length, get_or, take, sym, refl, ap, ◌∙◌, subst}
+use Rattle.std.proofs.Common.{◌≡◌, ℕ, List, [], get_or, take, ◌∙◌, subst}
 use Rattle.settling.specs.Figures.{Pay}
 use Rattle.settling.specs.Settled.{Settled}
 use Rattle.settling.specs.declared.header.Header.{Header}

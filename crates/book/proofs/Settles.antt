@@ -1,21 +1,21 @@
 -- Settling a closed hour leads to the law of a settled one.
-use Rattle.std.proofs.Common.{◌≡◌, ℕ, zero, suc, ◌+◌, ◌-◌, ◌<◌, ◌≤◌, min, cond, ◌&&◌, eqb, ltb, List, length, ℤ, pos, ◌+ℤ◌, ◌-ℤ◌, sym, refl, ap, ◌∙◌, subst, ⊎_elim, arith}
+use Rattle.std.proofs.Common.{◌≡◌, ℕ, zero, suc, ◌+◌, ◌-◌, ◌<◌, ◌≤◌, min, cond, ◌&&◌, eqb, ltb, List, length, ℤ, pos, ◌+ℤ◌, sym, refl, ap, ◌∙◌, subst, ⊎_elim, arith}
 use mathlib.Core.Path.{fun_ext}
 use Rattle.std.proofs.lemmas.Bool.{cases_lt, le-ltb, cond-false, and_left}
-use Rattle.allocation.specs.Groups.{Group, total}
+use Rattle.allocation.specs.Groups.{total}
 use Rattle.allocation.specs.Laws.{Split}
 use Rattle.settling.proofs.Agree.{Agree, plant_agree, buyer_agree, hour_agree}
 use Rattle.settling.proofs.Ledgers.{ledger_stands}
 use Rattle.settling.proofs.Nets.{nets_add_up}
 use Rattle.settling.specs.Derived.{Found, ledger_in, found_in, sum_z, NetsAddUp}
-use Rattle.settling.specs.Figures.{Pay, sum_units, billed_unit, volumes, unit_figures, plant_figures, buyer_figures, hour_figures, net_in, unassigned_in}
-use Rattle.settling.specs.Ledger.{UnitCase, PlantCase, Ledger, ledger_of, table_of}
+use Rattle.settling.specs.Figures.{Pay, unit_figures, plant_figures, buyer_figures, hour_figures, net_in, unassigned_in}
+use Rattle.settling.specs.Ledger.{UnitCase, PlantCase, ledger_of}
 use Rattle.settling.specs.Settled.{GroupSettled, Settled, buyer_at}
 use Rattle.settling.specs.declared.header.Header.{Header}
 use Rattle.table.proofs.Accepted.{all_named}
 use Rattle.table.specs.Closing.{unit_at, plant_at}
-use Rattle.table.specs.ClosingLaw.{group_in, share_one_in, share_two_in, amount_in, PlantLaw, ClosingLaw}
-use Rattle.table.specs.History.{plants_in, units_in, unit_in, buyers_in, sold_in, loss_in, commitments_of, Proper, UnitsStand, Stands}
+use Rattle.table.specs.ClosingLaw.{group_in, share_one_in, share_two_in, amount_in, ClosingLaw}
+use Rattle.table.specs.History.{plants_in, units_in, unit_in, buyers_in, sold_in, loss_in, Proper, UnitsStand, Stands}
 use Rattle.table.specs.Metered.{Metered}
 use Rattle.table.specs.declared.entries.Entry.{Entry}
 use Rattle.table.specs.declared.readings.Reading.{Reading}

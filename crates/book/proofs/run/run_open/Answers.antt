@@ -1,8 +1,7 @@
-use Rattle.std.proofs.Common.{◌≡◌, [], sym, ap, ◌∙◌, subst}
+use Rattle.std.proofs.Common.{[], sym, ap, ◌∙◌, subst}
 use Rattle.table.specs.Effects.{after_entries}
-use Rattle.table.specs.History.{Stands, empty_table}
+use Rattle.table.specs.History.{Stands}
 use Rattle.table.specs.Metered.{Metered}
-use Rattle.table.specs.declared.records.Table.{Table}
 use Rattle.book.proofs.Runs.{entered_stands, entered_unread, entries_judged}
 use Rattle.book.specs.Law.{entered}
 use Rattle.book.proofs.run.run_open.Goals as goal

@@ -1,9 +1,8 @@
-use Rattle.std.proofs.Common.{sym, ◌∙◌, subst}
+use Rattle.std.proofs.Common.{subst}
 use Rattle.settling.specs.Figures.{pay_by}
 use Rattle.settling.specs.Settled.{Settled}
 use Rattle.settling.specs.declared.header.Header.{Header}
 use Rattle.book.proofs.Runs.{run_settled_law, run_settled_only}
-use Rattle.book.specs.Law.{entered, metered}
 use Rattle.book.proofs.run.run_settled.Goals as goal
 
 pub returns : goal.returns
