@@ -24,13 +24,6 @@ impl<T: Drop> From<AllocFailed<T>> for Failure {
     }
 }
 
-// Text is written to memory only.
-impl From<fmt::Error> for Failure {
-    fn from(_error: fmt::Error) -> Failure {
-        Failure::Memory
-    }
-}
-
 impl From<CurveRefusal> for Failure {
     fn from(refusal: CurveRefusal) -> Failure {
         Failure::Case(refusal.number())

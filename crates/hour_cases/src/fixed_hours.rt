@@ -8,7 +8,6 @@ use crate::runs::{Plan, Way, enter_each, read_each};
 use book::{Book, Entry, Header, PriceRow};
 use curves::{CurveRefusal, Step, SteppedCost, SteppedOffer, Tariff};
 use std::alloc::{AllocError, Global};
-use std::fmt;
 
 const TARIFF: Tariff = Tariff { rate: 400 };
 
@@ -108,13 +107,21 @@ fn nothing_read(heap: Global, text: &mut String, book: &mut Book) -> Result<(), 
 }
 
 // The small hour is let go while it is open.
-fn let_open_go(plan: &Plan<Tariff, Tariff>, text: &mut String, book: &mut Book) -> fmt::Result {
+fn let_open_go(
+    plan: &Plan<Tariff, Tariff>,
+    text: &mut String,
+    book: &mut Book,
+) -> Result<(), AllocError> {
     let mut open = book.open(plan.header);
     enter_each(text, &mut open, plan.entries.as_slice(), Way::ByName)
 }
 
 // The small hour is let go when it is closed and read.
-fn let_closed_go(plan: &Plan<Tariff, Tariff>, text: &mut String, book: &mut Book) -> fmt::Result {
+fn let_closed_go(
+    plan: &Plan<Tariff, Tariff>,
+    text: &mut String,
+    book: &mut Book,
+) -> Result<(), AllocError> {
     let mut open = book.open(plan.header);
     enter_each(text, &mut open, plan.entries.as_slice(), Way::ByName)?;
     let mut closed = open.close(plan.offers.as_slice(), plan.guaranteed.as_slice());

@@ -5,7 +5,7 @@ use crate::calls::plant;
 use crate::text::{answer_line, refusal_line, taken_line};
 use book::Header;
 use curves::{Step, SteppedCost, SteppedOffer, Tariff};
-use std::fmt;
+use std::alloc::AllocError;
 use table::Table;
 
 // The limits of a header's fields, and the first numbers over them.
@@ -36,7 +36,7 @@ const TWO_STEPS: [(u32, u32, u32, u32); 4] = [
     (1, 10_000_001, 0, 10_000_001),
 ];
 
-fn header_line(text: &mut String, fields: &[u32; 5]) -> fmt::Result {
+fn header_line(text: &mut String, fields: &[u32; 5]) -> Result<(), AllocError> {
     match Header::new(fields[0], fields[1], fields[2], fields[3], fields[4]) {
         Ok(_) => writeln!(text, "taken"),
         Err(refusal) => refusal_line(text, refusal.number()),
@@ -44,7 +44,7 @@ fn header_line(text: &mut String, fields: &[u32; 5]) -> fmt::Result {
 }
 
 // One field at its limit, and then over it.
-fn header_limits(text: &mut String, place: usize) -> fmt::Result
+fn header_limits(text: &mut String, place: usize) -> Result<(), AllocError>
     requires { place < 5 }
 {
     let mut fields = [0; 5];
@@ -54,7 +54,7 @@ fn header_limits(text: &mut String, place: usize) -> fmt::Result
     header_line(text, &fields)
 }
 
-fn headers(text: &mut String) -> fmt::Result {
+fn headers(text: &mut String) -> Result<(), AllocError> {
     writeln!(text, "case headers")?;
     for place in 0..5usize {
         header_limits(text, place)?;
@@ -64,12 +64,12 @@ fn headers(text: &mut String) -> fmt::Result {
 }
 
 // Whether the list makes an offer, and whether it makes a cost curve.
-fn list_lines(text: &mut String, list: &[Step]) -> fmt::Result {
+fn list_lines(text: &mut String, list: &[Step]) -> Result<(), AllocError> {
     taken_line(text, SteppedOffer::new(list))?;
     taken_line(text, SteppedCost::new(list))
 }
 
-fn equal_steps(text: &mut String) -> fmt::Result {
+fn equal_steps(text: &mut String) -> Result<(), AllocError> {
     for (count, width, price) in EQUAL_STEPS {
         let steps = [Step { width, price }; 11];
         list_lines(text, &steps[0..count.min(11)])?;
@@ -77,7 +77,7 @@ fn equal_steps(text: &mut String) -> fmt::Result {
     Ok(())
 }
 
-fn two_steps(text: &mut String) -> fmt::Result {
+fn two_steps(text: &mut String) -> Result<(), AllocError> {
     for (width, price, next_width, next_price) in TWO_STEPS {
         let first = Step { width, price };
         let second = Step {
@@ -89,7 +89,7 @@ fn two_steps(text: &mut String) -> fmt::Result {
     Ok(())
 }
 
-fn rates(text: &mut String) -> fmt::Result {
+fn rates(text: &mut String) -> Result<(), AllocError> {
     for rate in [0, 10_000_000, 10_000_001] {
         taken_line(text, Tariff::new(rate))?;
     }
@@ -102,7 +102,7 @@ fn priced_unit(
     table: &mut Table,
     unit: (u32, u32, u32),
     list: &[Step],
-) -> fmt::Result {
+) -> Result<(), AllocError> {
     let (plant, declared, internal) = unit;
     match table.add_priced(plant, declared, internal, SteppedOffer::new(list)) {
         Ok((number, _)) => writeln!(text, "{number}"),
@@ -111,7 +111,11 @@ fn priced_unit(
 }
 
 // A unit with rows, with a refused number of steps, and with a refused price.
-fn each_outcome(text: &mut String, table: &mut Table, unit: (u32, u32, u32)) -> fmt::Result {
+fn each_outcome(
+    text: &mut String,
+    table: &mut Table,
+    unit: (u32, u32, u32),
+) -> Result<(), AllocError> {
     let cheap = Step { width: 1, price: 5 };
     let dear = Step {
         width: 1,
@@ -122,7 +126,7 @@ fn each_outcome(text: &mut String, table: &mut Table, unit: (u32, u32, u32)) -> 
     priced_unit(text, table, unit, &[dear])
 }
 
-fn many_units(text: &mut String, table: &mut Table) -> fmt::Result {
+fn many_units(text: &mut String, table: &mut Table) -> Result<(), AllocError> {
     for _ in 0..126 {
         priced_unit(text, table, (1, 5, 0), &[Step { width: 1, price: 5 }])?;
     }
@@ -130,7 +134,7 @@ fn many_units(text: &mut String, table: &mut Table) -> fmt::Result {
 }
 
 // The refusals of the book come before those of the rows.
-fn priced_units(text: &mut String) -> fmt::Result {
+fn priced_units(text: &mut String) -> Result<(), AllocError> {
     writeln!(text, "case units with their rows")?;
     let mut table = Table::empty();
     answer_line(text, table.enter(plant(0)))?;
@@ -144,7 +148,7 @@ fn priced_units(text: &mut String) -> fmt::Result {
 }
 
 /// What is made before an hour, or with the outcome of making something else.
-pub(crate) fn makings(text: &mut String) -> fmt::Result {
+pub(crate) fn makings(text: &mut String) -> Result<(), AllocError> {
     headers(text)?;
     writeln!(text, "case step lists")?;
     equal_steps(text)?;

@@ -4,8 +4,7 @@ use crate::failures::Failure;
 use crate::text::{answer_line, answer_lines, listing, questions};
 use book::{Book, Calls, ClosedHour, Entry, Header, OpenHour, PriceRow, Reading, run_settled};
 use curves::{Offer, SteppedCost, SteppedOffer};
-use std::alloc::Global;
-use std::fmt;
+use std::alloc::{AllocError, Global};
 
 /// How the calls are made.
 #[derive(Clone, Copy)]
@@ -75,7 +74,7 @@ pub(crate) fn enter_each(
     hour: &mut OpenHour,
     entries: &[Entry],
     way: Way,
-) -> fmt::Result {
+) -> Result<(), AllocError> {
     for entry in entries {
         let answer = match way {
             Way::ByName => enter_by_name(hour, *entry),
@@ -92,7 +91,7 @@ pub(crate) fn read_each(
     hour: &mut ClosedHour,
     readings: &[Reading],
     way: Way,
-) -> fmt::Result {
+) -> Result<(), AllocError> {
     for reading in readings {
         let answer = match way {
             Way::ByName => read_by_name(hour, *reading),
@@ -170,7 +169,7 @@ impl<G: Offer + Drop, S: Offer + Drop> Plan<G, S> {
         book: &mut Book,
         way: Way,
         numbers: &[u32],
-    ) -> fmt::Result {
+    ) -> Result<(), AllocError> {
         let mut open = book.open(self.header);
         enter_each(text, &mut open, self.entries.as_slice(), way)?;
         let mut closed = open.close(self.offers.as_slice(), self.guaranteed.as_slice());

@@ -2,22 +2,22 @@
 use crate::calls::Answer;
 use book::SettledHour;
 use curves::CurveRefusal;
-use std::fmt;
+use std::alloc::AllocError;
 
 /// The line of a refusal, by its number.
-pub(crate) fn refusal_line(text: &mut String, number: u32) -> fmt::Result {
+pub(crate) fn refusal_line(text: &mut String, number: u32) -> Result<(), AllocError> {
     writeln!(text, "R {number}")
 }
 
 /// The accepted number, or the refusal.
-pub(crate) fn answer_line(text: &mut String, answer: Answer) -> fmt::Result {
+pub(crate) fn answer_line(text: &mut String, answer: Answer) -> Result<(), AllocError> {
     match answer {
         Ok(number) => writeln!(text, "{number}"),
         Err(refusal) => refusal_line(text, refusal.number()),
     }
 }
 
-pub(crate) fn answer_lines(text: &mut String, answers: &[Answer]) -> fmt::Result {
+pub(crate) fn answer_lines(text: &mut String, answers: &[Answer]) -> Result<(), AllocError> {
     for answer in answers {
         answer_line(text, *answer)?;
     }
@@ -25,14 +25,22 @@ pub(crate) fn answer_lines(text: &mut String, answers: &[Answer]) -> fmt::Result
 }
 
 /// Whether a list of steps or a rate is taken.
-pub(crate) fn taken_line<T: Drop>(text: &mut String, made: Result<T, CurveRefusal>) -> fmt::Result {
+pub(crate) fn taken_line<T: Drop>(
+    text: &mut String,
+    made: Result<T, CurveRefusal>,
+) -> Result<(), AllocError> {
     match made {
         Ok(_) => writeln!(text, "taken"),
         Err(refusal) => refusal_line(text, refusal.number()),
     }
 }
 
-fn unit_line(text: &mut String, hour: &SettledHour, group: u32, number: u32) -> fmt::Result {
+fn unit_line(
+    text: &mut String,
+    hour: &SettledHour,
+    group: u32,
+    number: u32,
+) -> Result<(), AllocError> {
     let letter = if group == 1 { "C" } else { "G" };
     match hour.unit(group, number) {
         Ok(u) => {
@@ -45,7 +53,7 @@ fn unit_line(text: &mut String, hour: &SettledHour, group: u32, number: u32) -> 
     }
 }
 
-fn plant_line(text: &mut String, hour: &SettledHour, number: u32) -> fmt::Result {
+fn plant_line(text: &mut String, hour: &SettledHour, number: u32) -> Result<(), AllocError> {
     match hour.plant(number) {
         Ok(p) => {
             writeln!(
@@ -58,7 +66,7 @@ fn plant_line(text: &mut String, hour: &SettledHour, number: u32) -> fmt::Result
     }
 }
 
-fn buyer_line(text: &mut String, hour: &SettledHour, number: u32) -> fmt::Result {
+fn buyer_line(text: &mut String, hour: &SettledHour, number: u32) -> Result<(), AllocError> {
     match hour.buyer(number) {
         Ok(b) => writeln!(text, "B {number} {} {}", b.share, b.net),
         Err(refusal) => refusal_line(text, refusal.number()),
@@ -66,7 +74,7 @@ fn buyer_line(text: &mut String, hour: &SettledHour, number: u32) -> fmt::Result
 }
 
 // The units of a group, up to the first number that is not there.
-fn unit_lines(text: &mut String, hour: &SettledHour, group: u32) -> fmt::Result {
+fn unit_lines(text: &mut String, hour: &SettledHour, group: u32) -> Result<(), AllocError> {
     for number in 1..1_000u32 {
         if hour.unit(group, number).is_err() {
             break;
@@ -76,7 +84,7 @@ fn unit_lines(text: &mut String, hour: &SettledHour, group: u32) -> fmt::Result 
     Ok(())
 }
 
-fn plant_lines(text: &mut String, hour: &SettledHour) -> fmt::Result {
+fn plant_lines(text: &mut String, hour: &SettledHour) -> Result<(), AllocError> {
     for number in 1..1_000u32 {
         if hour.plant(number).is_err() {
             break;
@@ -86,7 +94,7 @@ fn plant_lines(text: &mut String, hour: &SettledHour) -> fmt::Result {
     Ok(())
 }
 
-fn buyer_lines(text: &mut String, hour: &SettledHour) -> fmt::Result {
+fn buyer_lines(text: &mut String, hour: &SettledHour) -> Result<(), AllocError> {
     for number in 1..1_000u32 {
         if hour.buyer(number).is_err() {
             break;
@@ -97,7 +105,7 @@ fn buyer_lines(text: &mut String, hour: &SettledHour) -> fmt::Result {
 }
 
 /// All figures of the hour.
-pub(crate) fn listing(text: &mut String, hour: &SettledHour) -> fmt::Result {
+pub(crate) fn listing(text: &mut String, hour: &SettledHour) -> Result<(), AllocError> {
     unit_lines(text, hour, 1)?;
     unit_lines(text, hour, 2)?;
     plant_lines(text, hour)?;
@@ -107,7 +115,11 @@ pub(crate) fn listing(text: &mut String, hour: &SettledHour) -> fmt::Result {
 }
 
 /// What the hour answers about these numbers: the plant, the buyer, and the unit of groups 0 to 3.
-pub(crate) fn questions(text: &mut String, hour: &SettledHour, numbers: &[u32]) -> fmt::Result {
+pub(crate) fn questions(
+    text: &mut String,
+    hour: &SettledHour,
+    numbers: &[u32],
+) -> Result<(), AllocError> {
     for number in numbers {
         plant_line(text, hour, *number)?;
         buyer_line(text, hour, *number)?;

@@ -36,7 +36,6 @@ unit allocated = record {
   loss = 0;
   internal = 0;
   allocated = allocated;
-  billed = 130;
   energies = record { net = 130; accepted = 110; lost = 0; limited = 20; executed = 0; asked = 0 };
 }
 
