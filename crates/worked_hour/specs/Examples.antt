@@ -1,6 +1,6 @@
 -- The worked examples: limits, shares, the split, payments, the maintenance mark, day support, the buyers' shares, and the
 -- figures of the worked hour.
-use Rattle.std.specs.Prelude.{◌≡◌, ℕ, ◌-◌, true, false, cond, eqb, List, [], ◌∷◌, ℤ, pos, negsuc, ◌-ℤ◌, Some}
+use Rattle.std.specs.Prelude.{◌≡◌, ℕ, ◌-◌, true, false, List, [], ◌∷◌, pos, negsuc, ◌-ℤ◌}
 use Rattle.allocation.specs.TwoUnits.{WorkedExample}
 use Rattle.curves.specs.Steps.{step_price}
 use Rattle.curves.specs.declared.steps.Step.{Step}
@@ -13,7 +13,6 @@ use Rattle.settling.specs.Derived.{Found, ledger_in}
 use Rattle.settling.specs.Figures.{Pay, pay_by, unit_figures, plant_figures, buyer_figures, hour_figures}
 use Rattle.settling.specs.Ledger.{Ledger}
 use Rattle.settling.specs.declared.header.Header.{Header}
-use Rattle.settling.specs.declared.rows.PriceRow.{PriceRow}
 use Rattle.table.specs.declared.entries.Entry.{Entry}
 use Rattle.table.specs.declared.entries.Entry.TheVariants.{AddPlant, AddBuyer, AddCompetitive, Commit}
 use Rattle.table.specs.declared.readings.Reading.{Reading}
