@@ -11,6 +11,12 @@ pub sum_more : (n : ℕ) (f : ℕ → ℕ) → sum_of (n + 1) f ≡ sum_of n f +
 unfolding sum_of
 sum_more n f = ap (λ m. sum_of m f) (add-one n)
 
+-- the first place apart from the others
+pub sum_first : (n : ℕ) (f : ℕ → ℕ) → sum_of (suc n) f ≡ f 0 + sum_of n (λ i. f (suc i))
+unfolding sum_of
+sum_first zero f = omega arith
+sum_first (suc n) f = omega (arith, sum_first n f)
+
 -- where one holds of each place below n + 1, it holds below n and at n
 below_suc : (P : ℕ → Type 0) (n : ℕ) → ((i : ℕ) → i < suc n → P i) → (i : ℕ) → i < n → P i
 below_suc P n each i lt = each i (omega arith)

@@ -1,10 +1,14 @@
 -- The worked example, computed on the definitions.
-use Rattle.std.proofs.Common.{◌≡◌, ℕ, zero, suc, ◌-◌, ◌<◌, ◌≤◌, cond, leb, ◌⊎◌, List, [], ◌∷◌, length, sym, refl, ◌∙◌, subst, inl, inr, ⊎_elim, arith}
+use Rattle.std.proofs.Common.{◌≡◌, ℕ, zero, suc, ◌-◌, ◌<◌, ◌≤◌, cond, leb, ◌⊎◌, List, [], ◌∷◌, length, Ok, Result, sym, refl, ap, ◌∙◌, subst, inl, inr, ⊎_elim, arith}
 use Rattle.std.proofs.lemmas.List.{ext_get_or}
 use Rattle.std.proofs.lemmas.Bool.{cases_lt, le-leb, lt-leb, cond-true, cond-false, cond_both}
 use Rattle.curves.specs.Prices.{cost_of}
-use Rattle.curves.specs.Kinds.{stepped_offer_price}
-use Rattle.curves.specs.declared.stepped.SteppedOffer.{SteppedOffer}
+use Rattle.curves.specs.Kinds.{SteppedOffer, stepped_offer_price}
+use Rattle.std.specs.Option.{unwrap_or}
+use Rattle.std.specs.Result.{result_ok}
+use Rattle.curves.specs.Refusals.{stepped_offer_made}
+use Rattle.curves.specs.declared.refusals.CurveRefusal.{CurveRefusal}
+use Rattle.curves.specs.declared.steps.Step.{Step}
 use Rattle.allocation.specs.Groups.{sum_of, Within, group_of, amount_at}
 use Rattle.allocation.specs.Merit.{Before, MeritOrder}
 use Rattle.allocation.specs.Laws.{Split}
@@ -80,3 +84,8 @@ pinned first second share row left is-first is-second is-150 two promised =
     let known = subst (λ p. of (two_steps (step 50 300) (step 50 500)) p share) is-second (subst (λ o. of o second share) is-first promised) in
     let split = subst (of (two_steps (step 50 300) (step 50 500)) (two_steps (step 80 400) (step 20 500))) is-150 known in
     ext_get_or 0 row (70 ∷ (80 ∷ [])) two (λ i lt. sym (split.only (amounts 70 80) worked_example.of_150 i (omega arith)))
+
+-- an offer that is made of two steps, as they are known
+pub offer_made : (s t a b : Step) (made : Result SteppedOffer CurveRefusal) (offer : SteppedOffer) → s ≡ a → t ≡ b → made ≡ stepped_offer_made (s ∷ (t ∷ [])) → made ≡ Ok offer → stepped_offer_made (a ∷ (b ∷ [])) ≡ Ok (two_steps a b) → offer ≡ two_steps a b
+offer_made s t a b made offer first second is-made is-ok known =
+    ap (λ r. unwrap_or (result_ok r) offer) (sym is-ok ∙ is-made ∙ ap (λ x. stepped_offer_made (x ∷ (t ∷ []))) first ∙ ap (λ x. stepped_offer_made (a ∷ (x ∷ []))) second ∙ known)

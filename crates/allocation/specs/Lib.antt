@@ -3,3 +3,4 @@ pub mod Merit
 pub mod Laws
 pub mod Supply
 pub mod TwoUnits
+pub mod Units

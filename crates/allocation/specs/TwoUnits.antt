@@ -2,7 +2,7 @@
 use Rattle.std.specs.Prelude.{◌≡◌, ℕ, [], ◌∷◌, replicate}
 use Rattle.curves.specs.Steps.{step_price}
 use Rattle.curves.specs.declared.steps.Step.{Step}
-use Rattle.curves.specs.declared.stepped.SteppedOffer.{SteppedOffer}
+use Rattle.curves.specs.Kinds.{SteppedOffer}
 use Rattle.allocation.specs.Groups.{Group, units_of, amount_at, cost}
 use Rattle.allocation.specs.Merit.{MeritOrder}
 use Rattle.allocation.specs.Laws.{uncovered}

@@ -1,21 +1,14 @@
 // A worked example of a split.
 ghost use Rattle.std.specs.Prelude.{◌≡◌, [], ◌∷◌};
-ghost use Rattle.allocation.specs.TwoUnits.{WorkedExample, two_steps};
+ghost use Rattle.allocation.specs.TwoUnits.{WorkedExample, step};
 
 use crate::fill::split;
-use curves::{Step, StepTable, SteppedOffer};
+use curves::{Step, SteppedOffer};
 
-// An offer of two steps.
-fn two_steps(first: Step, second: Step) -> SteppedOffer
-    ensures { result ≡ two_steps first second }
+fn step(width: u32, price: u32) -> Step
+    ensures { result ≡ step width price }
 {
-    let blank = Step { width: 0, price: 0 };
-    let steps = [
-        first, second, blank, blank, blank, blank, blank, blank, blank, blank,
-    ];
-    SteppedOffer {
-        table: StepTable { count: 2, steps },
-    }
+    Step { width, price }
 }
 
 /// Splits 150 kWh over two units with the limit 100: one offers 50 kWh at 300 and then 500, the other 80 at 400 and
@@ -24,26 +17,8 @@ pub fn worked_example() -> [u32; 2]
     ensures stands { WorkedExample }
     ensures amounts { result ≡ 70 ∷ (80 ∷ []) }
 {
-    let first = two_steps(
-        Step {
-            width: 50,
-            price: 300,
-        },
-        Step {
-            width: 50,
-            price: 500,
-        },
-    );
-    let second = two_steps(
-        Step {
-            width: 80,
-            price: 400,
-        },
-        Step {
-            width: 20,
-            price: 500,
-        },
-    );
+    let first = SteppedOffer::new(&[step(50, 300), step(50, 500)]).unwrap();
+    let second = SteppedOffer::new(&[step(80, 400), step(20, 500)]).unwrap();
     let mut amounts = [0u32; 2];
     let _uncovered = split(&[first, second], &[100, 100], 150, &mut amounts);
     amounts

@@ -1,44 +1,41 @@
 // The split itself.
-ghost use Rattle.std.specs.Prelude.{◌≡◌, ℕ, ◌<◌, ◌≤◌, length, slice_index};
-ghost use Rattle.allocation.specs.Groups.{units_of, group_of, amount_at};
+ghost use Rattle.std.specs.Prelude.{◌≡◌, suc, length};
+ghost use Rattle.curves.specs.Limits.{read_energy};
+ghost use Rattle.curves.specs.Prices.{AtMost};
+ghost use Rattle.allocation.specs.Groups.{group_of, amount_at};
 ghost use Rattle.allocation.specs.Laws.{Split};
+ghost use Rattle.allocation.specs.Units.{units_in};
 ghost use Rattle.allocation.specs.Supply.{Filled};
 
-use crate::group::{count_below, count_up_to, unit_count};
-use crate::merit::{marginal_price, supply_below};
+use crate::group::Units;
 use curves::Offer;
 
-// Gives each of the first `n` units its kWh cheaper than `price`, and `left` more at that price, unit by unit;
-// answers what is then left.
-fn fill<O: Offer>(
-    offers: &[O],
-    limits: &[u32],
-    n: usize,
-    price: u32,
-    left: u32,
-    amounts: &mut [u32],
-) -> u32
-    requires { (n ≤ length offers.now) × ((n ≤ length limits.now) × (n ≤ length amounts.old)) }
-    ensures { Filled (units_of O.Curve.prices offers.now limits.now n) n price left result (amount_at amounts.new) }
+// How many of an offer's first `energy` kWh cost less than `price`.
+fn count_below<O: Offer>(offer: &O, energy: u32, price: u32) -> u32
+    ensures { AtMost (λ k. suc (O.Curve.prices offer.now k)) (read_energy energy) price result }
 {
-    let mut rest = left;
-    for i in 0..n {
-        let cheaper = count_below(offers, limits, i, price);
-        let marginal = count_up_to(offers, limits, i, price) - cheaper;
-        let more = marginal.min(rest);
-        amounts[i] = cheaper + more;
-        rest -= more;
-    }
-    rest
+    price
+        .checked_sub(1)
+        .map_or(0, |under| offer.count_at_most(energy, under))
 }
 
-// Writes 0 from place `n` on.
-fn clear_from(amounts: &mut [u32], n: usize)
-    ensures before { (i : ℕ) → i < n → slice_index amounts.new i ≡ slice_index amounts.old i }
-    ensures after { (i : ℕ) → n ≤ i → slice_index amounts.new i ≡ 0 }
-{
-    for i in n..amounts.len() {
-        amounts[i] = 0;
+impl<'a, O: Offer> Units<'a, O> {
+    // Gives each unit its kWh cheaper than `price`, and `left` more at that price, unit by unit; answers what is then
+    // left.
+    fn fill(&self, price: u32, left: u32, amounts: &mut [u32]) -> u32
+        requires { length amounts.old ≡ length self.now.offers.now }
+        ensures { let g = units_in O.Curve.prices self.now in Filled g g.units price left result (amount_at amounts.new) }
+    {
+        let mut rest = left;
+        // `iter_mut` in the `zip` would leave the proof with nothing of the amounts.
+        for (i, (offer, limit)) in self.offers.iter().zip(self.limits).enumerate() {
+            let cheaper = count_below(offer, *limit, price);
+            let marginal = offer.count_at_most(*limit, price) - cheaper;
+            let more = marginal.min(rest);
+            amounts[i] = cheaper + more;
+            rest -= more;
+        }
+        rest
     }
 }
 
@@ -46,10 +43,10 @@ fn clear_from(amounts: &mut [u32], n: usize)
 pub fn split<O: Offer>(offers: &[O], limits: &[u32], share: u32, amounts: &mut [u32]) -> u32
     ensures { Split (group_of O.Curve.prices offers.now limits.now (length amounts.old)) share (amount_at amounts.new) result }
 {
-    let n = unit_count(offers.len(), limits.len()).min(amounts.len());
-    let price = marginal_price(offers, limits, n, share);
-    let rest = share - supply_below(offers, limits, n, price);
-    let uncovered = fill(offers, limits, n, price, rest, amounts);
-    clear_from(amounts, n);
-    uncovered
+    let units = Units::new(offers, limits, amounts.len());
+    let price = units.marginal_price(share);
+    let rest = share - units.supply_below(price);
+    let (taken, others) = amounts.split_at_mut(units.len());
+    others.fill(0);
+    units.fill(price, rest, taken)
 }

@@ -8,4 +8,4 @@ mod merit;
 
 pub use example::worked_example;
 pub use fill::split;
-pub use group::total_cost;
+pub use group::{MAX_UNITS, total_cost};

@@ -12,10 +12,10 @@ use Rattle.table.proofs.Accepted.{units_placed}
 use Rattle.table.specs.Closing.{unit_at, plant_at}
 use Rattle.table.specs.ClosingLaw.{group_in, share_one_in, share_two_in, amount_in, ClosingLaw}
 use Rattle.table.specs.History.{plants_in, units_in, unit_in, Proper}
+use Rattle.table.specs.Rows.{UnitTable}
 use Rattle.table.specs.declared.entries.Entry.{Entry}
 use Rattle.table.specs.declared.readings.Reading.{Reading}
 use Rattle.table.specs.declared.records.Table.{Table}
-use Rattle.table.specs.declared.records.UnitTable.{UnitTable}
 use Rattle.book.proofs.Settles.{found_agree}
 use Rattle.book.specs.Law.{ledger, SettledLaw, SameFigures}
 

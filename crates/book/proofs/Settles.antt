@@ -17,6 +17,7 @@ use Rattle.table.specs.Closing.{unit_at, plant_at}
 use Rattle.table.specs.ClosingLaw.{group_in, share_one_in, share_two_in, amount_in, ClosingLaw}
 use Rattle.table.specs.History.{plants_in, units_in, unit_in, buyers_in, sold_in, loss_in, Proper, UnitsStand, Stands}
 use Rattle.table.specs.Metered.{Metered}
+use Rattle.table.specs.Rows.{UnitTable}
 use Rattle.table.specs.declared.entries.Entry.{Entry}
 use Rattle.table.specs.declared.readings.Reading.{Reading}
 use Rattle.table.specs.declared.records.Buyer.{Buyer}
@@ -26,7 +27,6 @@ use Rattle.table.specs.declared.records.Plant.{Plant}
 use Rattle.table.specs.declared.records.PlantFigures.{PlantFigures}
 use Rattle.table.specs.declared.records.Table.{Table}
 use Rattle.table.specs.declared.records.UnitFigures.{UnitFigures}
-use Rattle.table.specs.declared.records.UnitTable.{UnitTable}
 use Rattle.book.specs.Law.{ledger, SettledLaw}
 
 -- ledgers of one history agree where what closing found does
@@ -74,7 +74,7 @@ amounts_kept g plant h before after kept = fun_ext (λ i. ⊎_elim
     (cases_lt i (units_in g h)))
 
 module _ {O P : Type 0} (prices1 : O → ℕ → ℕ) (offers1 : List O) (prices2 : P → ℕ → ℕ) (offers2 : List P) (header : Header) (pay : Pay) (h : List Entry) (ok : Proper h) (rs : List Reading) (t after : Table) (s : Stands h t) (m : Metered rs t) (law : ClosingLaw prices1 offers1 prices2 offers2 h t) (settled : Settled header pay t after) where
-  amount_kept : (g : ℕ) (before next : UnitTable) → UnitsStand g h before → (p : ℕ → UnitCase → ℕ) → GroupSettled p t.plants before next → (i : ℕ) → i < units_in g h → (unit_at next i).figures.allocated ≡ (unit_at before i).figures.allocated
+  amount_kept : (g : ℕ) (before next : UnitTable) → UnitsStand g h before → (p : ℕ → UnitCase → ℕ) → GroupSettled p t.plants.rows before next → (i : ℕ) → i < units_in g h → (unit_at next i).figures.allocated ≡ (unit_at before i).figures.allocated
   amount_kept g before next stands p group i lt = ap (λ (f : UnitFigures). f.allocated) (group.entered i (omega (arith, stands.count, stands.room)))
 
   one_kept : (i : ℕ) → i < units_in 1 h → (unit_at after.competitive i).figures.allocated ≡ (unit_at t.competitive i).figures.allocated
@@ -83,7 +83,7 @@ module _ {O P : Type 0} (prices1 : O → ℕ → ℕ) (offers1 : List O) (prices
   two_kept : (i : ℕ) → i < units_in 2 h → (unit_at after.guaranteed i).figures.allocated ≡ (unit_at t.guaranteed i).figures.allocated
   two_kept = amount_kept 2 t.guaranteed after.guaranteed s.guaranteed (pay 2) settled.guaranteed
 
-  there : (i : ℕ) → i < plants_in h → i < min t.plant_count 32
+  there : (i : ℕ) → i < plants_in h → i < min t.plants.count 32
   there i lt = omega (arith, s.plants.counted, s.plants.room)
 
   -- settling keeps what closing wrote into a plant's row

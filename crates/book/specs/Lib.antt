@@ -1,2 +1,3 @@
 pub mod Questions
 pub mod Law
+pub mod Taken

@@ -2,12 +2,11 @@
 use Rattle.std.specs.Prelude.{ℕ, ◌-◌, min, Bool, cond, Ok, Err, Result, ◌==◌, slice_index_or}
 use Rattle.table.specs.Closing.{unit_at, plant_at}
 use Rattle.table.specs.Entries.{lacks}
-use Rattle.table.specs.Rows.{new_buyer}
+use Rattle.table.specs.Rows.{UnitTable, new_buyer}
 use Rattle.table.specs.declared.records.BuyerFigures.{BuyerFigures}
 use Rattle.table.specs.declared.records.PlantFigures.{PlantFigures}
 use Rattle.table.specs.declared.records.Table.{Table}
 use Rattle.table.specs.declared.records.UnitFigures.{UnitFigures}
-use Rattle.table.specs.declared.records.UnitTable.{UnitTable}
 use Rattle.table.specs.declared.refusals.BookRefusal.{BookRefusal}
 use Rattle.table.specs.declared.refusals.BookRefusal.TheVariants.{NoPlant, NoUnit, NoBuyer}
 
@@ -24,8 +23,8 @@ unit_answer group number t =
 
 abbrev pub plant_answer : ℕ → Table → Result PlantFigures BookRefusal
 plant_answer number t =
-    cond (lacks_row number t.plant_count 32) (Err NoPlant) (Ok (plant_at t (number - 1)).figures)
+    cond (lacks_row number t.plants.count 32) (Err NoPlant) (Ok (plant_at t (number - 1)).figures)
 
 abbrev pub buyer_answer : ℕ → Table → Result BuyerFigures BookRefusal
 buyer_answer number t =
-    cond (lacks_row number t.buyer_count 64) (Err NoBuyer) (Ok (slice_index_or t.buyers (number - 1) (new_buyer 0)).figures)
+    cond (lacks_row number t.buyers.count 64) (Err NoBuyer) (Ok (slice_index_or t.buyers.rows (number - 1) (new_buyer 0)).figures)

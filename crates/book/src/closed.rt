@@ -2,7 +2,8 @@
 ghost use Rattle.std.specs.Prelude.{◌≡◌};
 ghost use Rattle.settling.specs.Figures.{pay_by};
 ghost use Rattle.settling.specs.Settled.{Settled};
-ghost use Rattle.table.specs.Readings.{reading_answer, after_reading, after_readings};
+ghost use Rattle.book.specs.Taken.{ReadingTaken};
+ghost use Rattle.table.specs.Readings.{after_readings};
 ghost use Rattle.table.specs.Turns.{ReadingsAnswered};
 
 use crate::settled::SettledHour;
@@ -20,18 +21,14 @@ pub struct ClosedHour<'b> {
 impl<'b> ClosedHour<'b> {
     /// Takes a reading: answers the number of the row that it changed, or what turned it down.
     pub fn read(&mut self, reading: Reading) -> Result<u32, BookRefusal>
-        ensures answer { result ≡ reading_answer reading self.old.table.now }
-        ensures after { self.new.table.now ≡ after_reading reading self.old.table.now }
-        ensures header { self.new.header ≡ self.old.header }
+        ensures { ReadingTaken reading result self.old self.new }
     {
         self.table.read(reading)
     }
 
     /// Takes a competitive unit's reading.
     pub fn read_competitive(&mut self, unit: u32, reading: UnitReading) -> Result<u32, BookRefusal>
-        ensures answer { result ≡ reading_answer (Reading.Competitive unit reading) self.old.table.now }
-        ensures after { self.new.table.now ≡ after_reading (Reading.Competitive unit reading) self.old.table.now }
-        ensures header { self.new.header ≡ self.old.header }
+        ensures { ReadingTaken (Reading.Competitive unit reading) result self.old self.new }
     {
         self.read(Reading::Competitive { unit, reading })
     }
@@ -42,18 +39,14 @@ impl<'b> ClosedHour<'b> {
         unit: u32,
         reading: GuaranteedReading,
     ) -> Result<u32, BookRefusal>
-        ensures answer { result ≡ reading_answer (Reading.Guaranteed unit reading) self.old.table.now }
-        ensures after { self.new.table.now ≡ after_reading (Reading.Guaranteed unit reading) self.old.table.now }
-        ensures header { self.new.header ≡ self.old.header }
+        ensures { ReadingTaken (Reading.Guaranteed unit reading) result self.old self.new }
     {
         self.read(Reading::Guaranteed { unit, reading })
     }
 
     /// Takes a buyer's use.
     pub fn read_use(&mut self, buyer: u32, used: u32) -> Result<u32, BookRefusal>
-        ensures answer { result ≡ reading_answer (Reading.Use buyer used) self.old.table.now }
-        ensures after { self.new.table.now ≡ after_reading (Reading.Use buyer used) self.old.table.now }
-        ensures header { self.new.header ≡ self.old.header }
+        ensures { ReadingTaken (Reading.Use buyer used) result self.old self.new }
     {
         self.read(Reading::Use { buyer, used })
     }
@@ -76,9 +69,8 @@ impl<'b> ClosedHour<'b> {
     ) -> SettledHour<'b>
         ensures { Settled self.entry.header (pay_by O.Curve.prices C.Curve.prices rows.now G.Curve.prices offers.now self.entry.header) self.entry.table.now result.table.now }
     {
-        let header = self.header;
         let table = self.table;
-        settle(table, &header, rows, offers);
+        settle(table, &self.header, rows, offers);
         SettledHour { table }
     }
 }

@@ -1,7 +1,8 @@
 // The open hour: it takes entries and closing.
 ghost use Rattle.std.specs.Prelude.{◌≡◌};
 ghost use Rattle.table.specs.Closing.{Closed};
-ghost use Rattle.table.specs.Effects.{answer_of, after_entry, after_entries, priced_answer, after_priced};
+ghost use Rattle.book.specs.Taken.{EntryTaken};
+ghost use Rattle.table.specs.Effects.{after_entries, priced_answer, after_priced};
 ghost use Rattle.table.specs.Turns.{EntriesAnswered};
 
 use crate::closed::ClosedHour;
@@ -9,6 +10,7 @@ use curves::{CurveRefusal, Offer};
 use settling::Header;
 use table::{BookRefusal, Entry, Table, UnitRefusal};
 
+// A type of its own beside the closed hour of the same fields: what comes out of turn must not build.
 /// An hour into which is sold.
 #[derive(Drop)]
 pub struct OpenHour<'b> {
@@ -19,18 +21,14 @@ pub struct OpenHour<'b> {
 impl<'b> OpenHour<'b> {
     /// Takes an entry: answers the number of the row that it made or changed, or what turned it down.
     pub fn enter(&mut self, entry: Entry) -> Result<u32, BookRefusal>
-        ensures answer { result ≡ answer_of entry self.old.table.now }
-        ensures after { self.new.table.now ≡ after_entry entry self.old.table.now }
-        ensures header { self.new.header ≡ self.old.header }
+        ensures { EntryTaken entry result self.old self.new }
     {
         self.table.enter(entry)
     }
 
     /// Adds a plant with its loss to the reference point.
     pub fn add_plant(&mut self, loss: u32) -> Result<u32, BookRefusal>
-        ensures answer { result ≡ answer_of (Entry.AddPlant loss) self.old.table.now }
-        ensures after { self.new.table.now ≡ after_entry (Entry.AddPlant loss) self.old.table.now }
-        ensures header { self.new.header ≡ self.old.header }
+        ensures { EntryTaken (Entry.AddPlant loss) result self.old self.new }
     {
         self.enter(Entry::AddPlant { loss })
     }
@@ -42,9 +40,7 @@ impl<'b> OpenHour<'b> {
         declared: u32,
         internal: u32,
     ) -> Result<u32, BookRefusal>
-        ensures answer { result ≡ answer_of (Entry.AddCompetitive plant declared internal) self.old.table.now }
-        ensures after { self.new.table.now ≡ after_entry (Entry.AddCompetitive plant declared internal) self.old.table.now }
-        ensures header { self.new.header ≡ self.old.header }
+        ensures { EntryTaken (Entry.AddCompetitive plant declared internal) result self.old self.new }
     {
         self.enter(Entry::AddCompetitive {
             plant,
@@ -78,9 +74,7 @@ impl<'b> OpenHour<'b> {
         internal: u32,
         feeds: u32,
     ) -> Result<u32, BookRefusal>
-        ensures answer { result ≡ answer_of (Entry.AddGuaranteed plant declared seasonal internal feeds) self.old.table.now }
-        ensures after { self.new.table.now ≡ after_entry (Entry.AddGuaranteed plant declared seasonal internal feeds) self.old.table.now }
-        ensures header { self.new.header ≡ self.old.header }
+        ensures { EntryTaken (Entry.AddGuaranteed plant declared seasonal internal feeds) result self.old self.new }
     {
         self.enter(Entry::AddGuaranteed {
             plant,
@@ -93,9 +87,7 @@ impl<'b> OpenHour<'b> {
 
     /// Corrects a unit's declared gross energy.
     pub fn correct(&mut self, group: u32, unit: u32, declared: u32) -> Result<u32, BookRefusal>
-        ensures answer { result ≡ answer_of (Entry.Correct group unit declared) self.old.table.now }
-        ensures after { self.new.table.now ≡ after_entry (Entry.Correct group unit declared) self.old.table.now }
-        ensures header { self.new.header ≡ self.old.header }
+        ensures { EntryTaken (Entry.Correct group unit declared) result self.old self.new }
     {
         self.enter(Entry::Correct {
             group,
@@ -106,36 +98,28 @@ impl<'b> OpenHour<'b> {
 
     /// Puts a unit aside.
     pub fn put_aside(&mut self, group: u32, unit: u32) -> Result<u32, BookRefusal>
-        ensures answer { result ≡ answer_of (Entry.PutAside group unit) self.old.table.now }
-        ensures after { self.new.table.now ≡ after_entry (Entry.PutAside group unit) self.old.table.now }
-        ensures header { self.new.header ≡ self.old.header }
+        ensures { EntryTaken (Entry.PutAside group unit) result self.old self.new }
     {
         self.enter(Entry::PutAside { group, unit })
     }
 
     /// Takes a unit back.
     pub fn take_back(&mut self, group: u32, unit: u32) -> Result<u32, BookRefusal>
-        ensures answer { result ≡ answer_of (Entry.TakeBack group unit) self.old.table.now }
-        ensures after { self.new.table.now ≡ after_entry (Entry.TakeBack group unit) self.old.table.now }
-        ensures header { self.new.header ≡ self.old.header }
+        ensures { EntryTaken (Entry.TakeBack group unit) result self.old self.new }
     {
         self.enter(Entry::TakeBack { group, unit })
     }
 
     /// Adds a buyer with its loss.
     pub fn add_buyer(&mut self, loss: u32) -> Result<u32, BookRefusal>
-        ensures answer { result ≡ answer_of (Entry.AddBuyer loss) self.old.table.now }
-        ensures after { self.new.table.now ≡ after_entry (Entry.AddBuyer loss) self.old.table.now }
-        ensures header { self.new.header ≡ self.old.header }
+        ensures { EntryTaken (Entry.AddBuyer loss) result self.old self.new }
     {
         self.enter(Entry::AddBuyer { loss })
     }
 
     /// Sells a plant's energy ahead to a buyer.
     pub fn commit(&mut self, plant: u32, buyer: u32, volume: u32) -> Result<u32, BookRefusal>
-        ensures answer { result ≡ answer_of (Entry.Commit plant buyer volume) self.old.table.now }
-        ensures after { self.new.table.now ≡ after_entry (Entry.Commit plant buyer volume) self.old.table.now }
-        ensures header { self.new.header ≡ self.old.header }
+        ensures { EntryTaken (Entry.Commit plant buyer volume) result self.old self.new }
     {
         self.enter(Entry::Commit {
             plant,

@@ -1,8 +1,7 @@
 // Compares what curves answer with the prices of the second calculation.
 use crate::by_kwh::{ByKwh, LAST_KWH, WINDOW};
 use crate::draws::{Drawn, any_ceiling, any_free};
-use crate::random::Random;
-use crate::tallies::Tally;
+use comparing::{Random, Tally};
 use curves::{Curve, Modified, Raised};
 use std::alloc::{AllocError, Global};
 
@@ -10,7 +9,7 @@ use std::alloc::{AllocError, Global};
 pub const FAR: u32 = LAST_KWH - WINDOW;
 
 /// What was found of the curves of one kind, and of modified and raised curves over them.
-#[derive(Clone, Copy)]
+#[derive(Clone, Copy, Default)]
 pub struct KindTally {
     pub own: Tally,
     pub modified: Tally,
@@ -21,17 +20,30 @@ pub struct KindTally {
 /// Compares pseudo-random curves of one kind, and modified and raised curves over them.
 pub(crate) fn compare_kind<C: Drawn>(heap: Global, curves: u32) -> Result<KindTally, AllocError> {
     let mut random = Random::new(1);
-    let mut tally = KindTally {
-        own: Tally::NONE,
-        modified: Tally::NONE,
-        raised: Tally::NONE,
-        both: Tally::NONE,
-    };
+    let mut tally = KindTally::default();
     for _ in 0..curves {
         let own = C::draw(&mut random);
         let free = any_free(&mut random);
         let ceiling = any_ceiling(&mut random);
         tally.compare(heap, &own, free, ceiling)?;
+    }
+    Ok(tally)
+}
+
+/// Compares so many times what is drawn from a seed.
+// Hands on the heap, since a closure in a function with a const parameter gets no proof.
+pub(crate) fn compare<F: Fn(Global, &mut Random) -> Result<bool, AllocError>>(
+    heap: Global,
+    seed: u64,
+    times: u32,
+    is_same: F,
+) -> Result<Tally, AllocError>
+    requires { F.IsAlwaysCallable is_same }
+{
+    let mut random = Random::new(seed);
+    let mut tally = Tally::default();
+    for _ in 0..times {
+        tally.note(is_same(heap, &mut random)?);
     }
     Ok(tally)
 }
@@ -75,32 +87,25 @@ pub(crate) fn same_prices<C: Curve>(curve: &C, near: &[u32], far: &[u32]) -> boo
 // Prices, costs and stretch ends of the 120 kWh after the first `skipped`.
 fn same_window<C: Curve>(curve: &C, skipped: u32, prices: &[u32]) -> bool {
     let mut total = curve.cost(skipped);
-    let mut kwh = skipped;
-    for (i, price) in prices.iter().enumerate() {
-        total = total.saturating_add(*price as u64);
-        kwh = kwh.saturating_add(1);
-        let same = curve.price(kwh) == *price
-            && curve.cost(kwh) == total
-            && stretch_fits(kwh, curve.stretch_end(kwh), *price, &prices[i..]);
-        if !same {
-            return false;
-        }
-    }
+    let numbers = skipped.saturating_add(1)..=LAST_KWH;
     prices.len() == WINDOW as usize
+        && prices.iter().enumerate().zip(numbers).all(|((i, price), kwh)| {
+            total = total.saturating_add(*price as u64);
+            curve.price(kwh) == *price
+                && curve.cost(kwh) == total
+                && stretch_fits(kwh, curve.stretch_end(kwh), prices, i)
+        })
 }
 
-// Whether the kWh from `kwh` up to `end` have this price; `prices` are those from `kwh` on.
-fn stretch_fits(kwh: u32, end: u32, price: u32, prices: &[u32]) -> bool {
-    if end < kwh || end > LAST_KWH {
-        return false;
-    }
-    let count = (end - kwh) as usize + 1;
-    for each in &prices[0..count.min(prices.len())] {
-        if *each != price {
-            return false;
-        }
-    }
-    true
+// Whether the kWh from `kwh` up to `end` have one price; that of `kwh` stands at `place`.
+fn stretch_fits(kwh: u32, end: u32, prices: &[u32], place: usize) -> bool {
+    kwh <= end
+        && end <= LAST_KWH
+        && prices
+            .iter()
+            .skip(place)
+            .take((end - kwh) as usize + 1)
+            .all(|price| Some(price) == prices.get(place))
 }
 
 // Whether numbers outside the limits are read as the nearest within.

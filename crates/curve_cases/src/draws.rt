@@ -1,25 +1,21 @@
 // Pseudo-random curves, with fields that are often outside their limits.
 use crate::by_kwh::ByKwh;
-use crate::random::Random;
-use curves::{Step, StepTable, SteppedCost, SteppedOffer, Tariff};
+use comparing::Random;
+use curves::{Step, StepTable, Stepped, Tariff};
 use std::alloc::{AllocError, Global};
+use std::array;
+
+// Rates and ceilings at their limits, or past them.
+const PRICES: [u32; 5] = [0, 1, 10_000_000, 10_000_001, u32::MAX];
 
 /// A curve that stands on no other curve.
 pub trait Drawn: ByKwh + Drop {
     fn draw(random: &mut Random) -> Self;
 }
 
-impl Drawn for SteppedOffer {
-    fn draw(random: &mut Random) -> SteppedOffer {
-        SteppedOffer {
-            table: any_table(random),
-        }
-    }
-}
-
-impl Drawn for SteppedCost {
-    fn draw(random: &mut Random) -> SteppedCost {
-        SteppedCost {
+impl<const RISES: bool> Drawn for Stepped<RISES> {
+    fn draw(random: &mut Random) -> Stepped<RISES> {
+        Stepped {
             table: any_table(random),
         }
     }
@@ -43,17 +39,27 @@ struct StepSource {
 impl StepSource {
     fn next(&mut self, random: &mut Random) -> Step {
         self.level = self.level.saturating_add(any_rise(random));
-        let width = if random.below(self.odds) == 0 {
-            random.one_of([0, 1_999_900, 2_000_000, 2_000_001, u32::MAX])
-        } else {
-            random.below(20) + 1
-        };
-        let price = if random.below(self.odds) == 0 {
-            random.one_of([0, 777, 10_000_000, 10_000_001, u32::MAX])
-        } else {
-            self.level
-        };
+        let widths = [0, 1_999_900, 2_000_000, 2_000_001, u32::MAX];
+        let width = one_in(self.odds, random, &widths, |random| random.below(20) + 1);
+        let prices = [0, 777, 10_000_000, 10_000_001, u32::MAX];
+        let price = one_in(self.odds, random, &prices, |_| self.level);
         Step { width, price }
+    }
+}
+
+// One time in `odds` a number at a limit or past it, else any other.
+fn one_in<F: FnOnce(&mut Random) -> u32>(
+    odds: u32,
+    random: &mut Random,
+    limits: &[u32],
+    any_other: F,
+) -> u32
+    requires { F.IsAlwaysCallable any_other }
+{
+    if random.below(odds) == 0 {
+        random.one_of(limits)
+    } else {
+        any_other(random)
     }
 }
 
@@ -67,53 +73,33 @@ fn any_rise(random: &mut Random) -> u32 {
 }
 
 fn any_table(random: &mut Random) -> StepTable {
-    let level = random.one_of([0, 0, 0, 0, 9_999_000]);
+    let level = random.one_of(&[0, 0, 0, 0, 9_999_000]);
     let mut source = StepSource { odds: 5, level };
-    let mut steps = [Step { width: 0, price: 0 }; 10];
-    for step in steps.iter_mut() {
-        *step = source.next(random);
-    }
-    let count = if random.below(4) == 0 {
-        random.one_of([0, 1, 10, 11, u32::MAX])
-    } else {
-        random.below(10) + 1
-    };
+    let steps = array::from_fn(|_| source.next(random));
+    let counts = [0, 1, 10, 11, u32::MAX];
+    let count = one_in(4, random, &counts, |random| random.below(10) + 1);
     StepTable { count, steps }
 }
 
 /// A list of 0 to 12 steps: one in five with many fields outside their limits, and two in five with few.
 pub(crate) fn any_list(heap: Global, random: &mut Random) -> Result<Vec<Step>, AllocError> {
-    let odds = random.one_of([5, 40, 40, u32::MAX, u32::MAX]);
-    let level = random.one_of([0, 0, 0, 0, 9_999_000]);
+    let odds = random.one_of(&[5, 40, 40, u32::MAX, u32::MAX]);
+    let level = random.one_of(&[0, 0, 0, 0, 9_999_000]);
     let mut source = StepSource { odds, level };
-    let mut list = Vec::new(heap);
-    for _ in 0..random.below(13) {
-        list.push(source.next(random))?;
-    }
-    Ok(list)
+    let count = random.below(13);
+    (0..count).map(|_| source.next(random)).collect(heap)
 }
 
 pub(crate) fn any_rate(random: &mut Random) -> u32 {
-    if random.below(2) == 0 {
-        random.one_of([0, 1, 10_000_000, 10_000_001, u32::MAX])
-    } else {
-        random.below(12_000_000)
-    }
+    one_in(2, random, &PRICES, |random| random.below(12_000_000))
 }
 
 /// How many first kWh are free.
 pub(crate) fn any_free(random: &mut Random) -> u32 {
-    if random.below(2) == 0 {
-        random.one_of([0, 120, 1_999_950, 2_000_000, u32::MAX])
-    } else {
-        random.below(130)
-    }
+    let limits = [0, 120, 1_999_950, 2_000_000, u32::MAX];
+    one_in(2, random, &limits, |random| random.below(130))
 }
 
 pub(crate) fn any_ceiling(random: &mut Random) -> u32 {
-    if random.below(2) == 0 {
-        random.one_of([0, 1, 10_000_000, 10_000_001, u32::MAX])
-    } else {
-        random.below(6000)
-    }
+    one_in(2, random, &PRICES, |random| random.below(6000))
 }

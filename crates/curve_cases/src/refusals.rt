@@ -1,47 +1,27 @@
 // Compares which lists of steps and which rates are refused.
-use crate::by_kwh::{LAST_KWH, Order, TOP_PRICE, expanded};
-use crate::compare::{FAR, same_prices};
+use crate::by_kwh::{LAST_KWH, TOP_PRICE, expanded};
+use crate::compare::{FAR, compare, same_prices};
 use crate::draws::{any_list, any_rate};
-use crate::random::Random;
-use crate::tallies::Tally;
-use curves::{Curve, CurveRefusal, Step, SteppedCost, SteppedOffer, Tariff};
+use comparing::{Random, Tally};
+use curves::{Curve, Step, Stepped, Tariff};
 use std::alloc::{AllocError, Global};
 
-/// A curve that a list of steps makes.
-pub trait FromList: Curve + Drop {
-    fn from_list(list: &[Step]) -> Result<Self, CurveRefusal>;
-}
-
-impl FromList for SteppedOffer {
-    fn from_list(list: &[Step]) -> Result<SteppedOffer, CurveRefusal> {
-        SteppedOffer::new(list)
-    }
-}
-
-impl FromList for SteppedCost {
-    fn from_list(list: &[Step]) -> Result<SteppedCost, CurveRefusal> {
-        SteppedCost::new(list)
-    }
-}
-
 /// Compares what is made of pseudo-random lists of steps.
-pub(crate) fn compare_lists<C: FromList>(
+pub(crate) fn compare_lists<const RISES: bool>(
     heap: Global,
-    order: Order,
     lists: u32,
 ) -> Result<Tally, AllocError> {
-    let mut random = Random::new(3);
-    let mut tally = Tally::NONE;
-    for _ in 0..lists {
-        let list = any_list(heap, &mut random)?;
-        tally.note(same_made::<C>(heap, order, list.as_slice())?);
-    }
-    Ok(tally)
+    compare(heap, 3, lists, same_drawn::<RISES>)
 }
 
-fn same_made<C: FromList>(heap: Global, order: Order, list: &[Step]) -> Result<bool, AllocError> {
-    let expected = refusal_number(order, list);
-    match C::from_list(list) {
+fn same_drawn<const RISES: bool>(heap: Global, random: &mut Random) -> Result<bool, AllocError> {
+    let list = any_list(heap, random)?;
+    same_made::<RISES>(heap, list.as_slice())
+}
+
+fn same_made<const RISES: bool>(heap: Global, list: &[Step]) -> Result<bool, AllocError> {
+    let expected = refusal_number(RISES, list);
+    match Stepped::<RISES>::new(list) {
         Ok(curve) => {
             let near = expanded(heap, list, 0)?;
             let far = expanded(heap, list, FAR)?;
@@ -51,34 +31,31 @@ fn same_made<C: FromList>(heap: Global, order: Order, list: &[Step]) -> Result<b
     }
 }
 
-// The number that a list of steps is refused with; None where it is accepted.
-fn refusal_number(order: Order, list: &[Step]) -> Option<u32> {
-    if list.is_empty() || list.len() > 10 {
-        return Some(8);
+// The number of the refusal of a list of steps; None where it is accepted. A number, since the numbers that callers get
+// are compared too: 8 for the steps, 9 for a price.
+fn refusal_number(rises: bool, list: &[Step]) -> Option<u32> {
+    let falls = list
+        .iter()
+        .zip(list.iter().skip(1))
+        .any(|(before, after)| after.price < before.price);
+    let widths_fit = list.iter().all(|step| (1..=LAST_KWH).contains(&step.width));
+    if list.is_empty() || list.len() > 10 || !widths_fit || rises && falls {
+        Some(8)
+    } else if list.iter().any(|step| step.price > TOP_PRICE) {
+        Some(9)
+    } else {
+        None
     }
-    let mut number = None;
-    let mut before = 0u32;
-    for step in list {
-        let falls = step.price < before && matches!(order, Order::NeverFalls);
-        if falls || step.width < 1 || step.width > LAST_KWH {
-            return Some(8);
-        }
-        if step.price > TOP_PRICE {
-            number = Some(9);
-        }
-        before = step.price;
-    }
-    number
 }
 
 /// Compares what is made of pseudo-random rates.
-pub(crate) fn compare_rates(rates: u32) -> Tally {
-    let mut random = Random::new(4);
-    let mut tally = Tally::NONE;
-    for _ in 0..rates {
-        tally.note(same_tariff(any_rate(&mut random)));
-    }
-    tally
+pub(crate) fn compare_rates(heap: Global, rates: u32) -> Result<Tally, AllocError> {
+    compare(
+        heap,
+        4,
+        rates,
+        |_, random| Ok(same_tariff(any_rate(random))),
+    )
 }
 
 fn same_tariff(rate: u32) -> bool {

@@ -1,26 +1,24 @@
 -- Lemmas on walking along a list of steps.
-use Rattle.std.proofs.Common.{◌≡◌, ℕ, ◌+◌, ◌-◌, ◌<◌, ◌≤◌, cond, leb, List, [], ◌∷◌, length, get_or, drop, sym, ap, ◌∙◌, arith}
-use Rattle.std.proofs.lemmas.Bool.{le-leb, lt-leb, cond-true, cond-false, cond_both, leb-true, leb-false}
+use Rattle.std.proofs.Common.{◌≡◌, ℕ, ◌+◌, ◌-◌, ◌<◌, ◌≤◌, Bool, List, length, get_or, drop, sym, ap, ◌∙◌, arith}
+use Rattle.std.proofs.lemmas.Bool.{le-leb, lt-leb, cond-true, cond-false}
 use Rattle.std.proofs.lemmas.List.{drop_more, drop_all}
 use Rattle.curves.specs.Limits.{read_kwh}
 use Rattle.curves.specs.Steps.{price_after, price_read, read_from, LevelAt}
 use Rattle.curves.specs.declared.steps.Step.{Step}
-use Rattle.curves.specs.declared.steps.Reading.{Reading}
-use Rattle.curves.specs.declared.steps.Reading.TheVariants.{Lifted}
 
 -- the price of kWh k by the steps that are left, read after a step of the price `last`
-abbrev pub rest : Reading → ℕ → List Step → ℕ → ℕ
-rest reading last ss k = price_after last (read_from reading last ss) k
+abbrev pub rest : Bool → ℕ → List Step → ℕ → ℕ
+rest rises last ss k = price_after last (read_from rises last ss) k
 
 -- the next of the steps that are left, of the width w and the price p, holds kWh k
-pub rest_here : (r : Reading) (last k : ℕ) (xs : List Step) (i : ℕ) (d : Step) (p w : ℕ) → i < length xs → p ≡ price_read r last (get_or xs i d) → w ≡ read_kwh (get_or xs i d).width → k ≤ w → rest r last (drop i xs) k ≡ p
+pub rest_here : (r : Bool) (last k : ℕ) (xs : List Step) (i : ℕ) (d : Step) (p w : ℕ) → i < length xs → p ≡ price_read r last (get_or xs i d) → w ≡ read_kwh (get_or xs i d).width → k ≤ w → rest r last (drop i xs) k ≡ p
 rest_here r last k xs i d p w lt priced wide h =
     let s = get_or xs i d in
     let here : k ≤ read_kwh s.width = omega arith in
     ap (λ ss. rest r last ss k) (drop_more xs i d lt) ∙ cond-true _ _ _ (le-leb k (read_kwh s.width) here) ∙ sym priced
 
 -- kWh k comes after it
-pub rest_past : (r : Reading) (last k : ℕ) (xs : List Step) (i : ℕ) (d : Step) (p w : ℕ) → i < length xs → p ≡ price_read r last (get_or xs i d) → w ≡ read_kwh (get_or xs i d).width → w < k → rest r last (drop i xs) k ≡ rest r p (drop (i + 1) xs) (k - w)
+pub rest_past : (r : Bool) (last k : ℕ) (xs : List Step) (i : ℕ) (d : Step) (p w : ℕ) → i < length xs → p ≡ price_read r last (get_or xs i d) → w ≡ read_kwh (get_or xs i d).width → w < k → rest r last (drop i xs) k ≡ rest r p (drop (i + 1) xs) (k - w)
 rest_past r last k xs i d p w lt priced wide h =
     let s = get_or xs i d in
     let past : read_kwh s.width < k = omega arith in
@@ -29,7 +27,7 @@ rest_past r last k xs i d p w lt priced wide h =
     ∙ ap (λ v. rest r p (drop (i + 1) xs) (k - v)) (sym wide)
 
 -- no step is left
-pub rest_none : (r : Reading) (last k : ℕ) (xs : List Step) (i : ℕ) → length xs ≤ i → rest r last (drop i xs) k ≡ last
+pub rest_none : (r : Bool) (last k : ℕ) (xs : List Step) (i : ℕ) → length xs ≤ i → rest r last (drop i xs) k ≡ last
 rest_none r last k xs i le = ap (λ ss. rest r last ss k) (drop_all i xs le)
 
 -- one price from kWh k to kWh end
@@ -44,24 +42,3 @@ level_at price k at p end same le top level =
         level = λ m from to. level m (omega arith) to ∙ sym here;
       };
     }
-
--- an offer's price is nowhere under the last one read
-pub lifted_floor : (ss : List Step) (last k : ℕ) → last ≤ rest Lifted last ss k
-lifted_floor [] last k = omega arith
-lifted_floor (s ∷ ss) last k =
-    let p = price_read Lifted last s in
-    cond_both (leb k (read_kwh s.width)) p (rest Lifted p ss (k - read_kwh s.width)) (λ v. last ≤ v)
-    (λ _. omega arith) (λ _. omega (arith, lifted_floor ss p (k - read_kwh s.width)))
-
--- an offer's price never falls
-pub lifted_rises : (ss : List Step) (last i j : ℕ) → i ≤ j → rest Lifted last ss i ≤ rest Lifted last ss j
-lifted_rises [] last i j le = omega arith
-lifted_rises (s ∷ ss) last i j le =
-    let p = price_read Lifted last s in
-    let w = read_kwh s.width in
-    let later = λ (k : ℕ). rest Lifted p ss (k - w) in
-    cond_both (leb i w) p (later i) (λ v. v ≤ cond (leb j w) p (later j))
-    (λ _. cond_both (leb j w) p (later j) (λ v. p ≤ v) (λ _. omega arith) (λ _. lifted_floor ss p (j - w)))
-    (λ past. cond_both (leb j w) p (later j) (λ v. later i ≤ v)
-    (λ here. absurd (let gap : w < i = leb-false i w past in let low : j ≤ w = leb-true j w here in omega arith))
-    (λ _. lifted_rises ss p (i - w) (j - w) (omega arith)))

@@ -1,19 +1,22 @@
 -- What making a curve refuses, with the refusals' numbers, and what it makes.
-use Rattle.std.specs.Prelude.{ℕ, ◌-◌, Bool, true, false, cond, not, ◌&&◌, ◌||◌, List, [], ◌∷◌, ◌++◌, length, replicate, Ok, Err, Result, ◌==◌, nat_le, nat_lt}
+use Rattle.std.specs.Prelude.{ℕ, ◌-◌, Bool, true, false, cond, not, ◌&&◌, ◌||◌, List, [], ◌∷◌, ◌++◌, length, replicate, codes, Ok, Err, Result, ◌==◌, nat_le, nat_lt}
 use Rattle.curves.specs.declared.refusals.CurveRefusal.{CurveRefusal}
 use Rattle.curves.specs.declared.refusals.CurveRefusal.TheVariants.{Steps, Price}
-use Rattle.curves.specs.declared.single_rate.Tariff.{Tariff}
-use Rattle.curves.specs.declared.stepped.SteppedOffer.{SteppedOffer}
-use Rattle.curves.specs.declared.stepped.SteppedCost.{SteppedCost}
+use Rattle.curves.specs.declared.tariff.Tariff.{Tariff}
+use Rattle.curves.specs.declared.stepped.Stepped.{Stepped}
+use Rattle.curves.specs.Kinds.{SteppedOffer, SteppedCost}
 use Rattle.curves.specs.declared.steps.Step.{Step}
 use Rattle.curves.specs.declared.steps.StepTable.{StepTable}
-use Rattle.curves.specs.declared.steps.Reading.{Reading}
-use Rattle.curves.specs.declared.steps.Reading.TheVariants.{AsGiven, Lifted}
 
 -- the number of each refusal in the table of refusals
 abbrev pub refusal_number : CurveRefusal → ℕ
 refusal_number Steps = 8
 refusal_number Price = 9
+
+-- a refusal in words, in bytes
+abbrev pub refusal_text : CurveRefusal → List ℕ
+refusal_text Steps = codes "refused with 8: not 1 to 10 steps, a width not 1 to 2000000, or a price that falls"
+refusal_text Price = codes "refused with 9: a price over 10000000"
 
 -- every width is from 1 to 2,000,000
 abbrev pub widths_fit : List Step → Bool
@@ -30,33 +33,35 @@ abbrev pub price_falls : ℕ → List Step → Bool
 price_falls before [] = false
 price_falls before (s ∷ ss) = nat_lt s.price before || price_falls s.price ss
 
--- the prices of a cost may fall
-abbrev pub falls : Reading → ℕ → List Step → Bool
-falls AsGiven before l = false
-falls Lifted before l = price_falls before l
+-- a price falls where prices have to rise
+abbrev pub falls : Bool → ℕ → List Step → Bool
+falls rises before l = rises && price_falls before l
 
 -- refused as a list of steps
-abbrev pub bad_steps : Reading → List Step → Bool
-bad_steps reading l = length l == 0 || (nat_lt 10 (length l) || (not (widths_fit l) || falls reading 0 l))
+abbrev pub bad_steps : Bool → List Step → Bool
+bad_steps rises l = length l == 0 || (nat_lt 10 (length l) || (not (widths_fit l) || falls rises 0 l))
 
 -- the list in a table's ten places, and blank steps behind it
 abbrev pub padded_steps : List Step → List Step
 padded_steps l = l ++ replicate (10 - length l) (record { width = 0; price = 0 })
 
 -- what making a table gives: the steps are judged first, over the whole list, and then the prices
-abbrev pub judged : {C : Type 0} → (StepTable → C) → Reading → List Step → Result C CurveRefusal
-judged curve reading l =
-    cond (bad_steps reading l) (Err Steps)
+abbrev pub judged : {C : Type 0} → (StepTable → C) → Bool → List Step → Result C CurveRefusal
+judged curve rises l =
+    cond (bad_steps rises l) (Err Steps)
     (cond (prices_fit l) (Ok (curve (record { count = length l; steps = padded_steps l }))) (Err Price))
 
-abbrev pub table_made : Reading → List Step → Result StepTable CurveRefusal
-table_made reading l = judged (λ t. t) reading l
+abbrev pub table_made : Bool → List Step → Result StepTable CurveRefusal
+table_made rises l = judged (λ t. t) rises l
+
+abbrev pub stepped_made : {n : ℕ} → Bool → List Step → Result (Stepped n) CurveRefusal
+stepped_made rises l = judged (λ t. record { table = t }) rises l
 
 abbrev pub stepped_offer_made : List Step → Result SteppedOffer CurveRefusal
-stepped_offer_made l = judged (λ t. record { table = t }) Lifted l
+stepped_offer_made l = stepped_made true l
 
 abbrev pub stepped_cost_made : List Step → Result SteppedCost CurveRefusal
-stepped_cost_made l = judged (λ t. record { table = t }) AsGiven l
+stepped_cost_made l = stepped_made false l
 
 abbrev pub tariff_made : ℕ → Result Tariff CurveRefusal
 tariff_made rate = cond (nat_le rate 10000000) (Ok (record { rate = rate })) (Err Price)

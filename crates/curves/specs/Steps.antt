@@ -1,12 +1,10 @@
 -- Lists of steps: what they mean, how a record's fields are read, and which lists are refused.
-use Rattle.std.specs.Prelude.{◌≡◌, ℕ, ◌-◌, max, cond, List, [], ◌∷◌, take, nat_le}
+use Rattle.std.specs.Prelude.{◌≡◌, ℕ, ◌-◌, max, Bool, true, false, cond, List, [], ◌∷◌, take, nat_le}
 use Rattle.curves.specs.Limits.{read_kwh, read_price, read_count}
 use Rattle.curves.specs.Prices.{Stretch}
 use Rattle.curves.specs.declared.steps.Level.{Level}
 use Rattle.curves.specs.declared.steps.Step.{Step}
 use Rattle.curves.specs.declared.steps.StepTable.{StepTable}
-use Rattle.curves.specs.declared.steps.Reading.{Reading}
-use Rattle.curves.specs.declared.steps.Reading.TheVariants.{AsGiven, Lifted}
 
 -- The price of kWh k by a list of steps: the first step's price up to its width, and past that the price by the
 -- steps after it. Past all steps it is the last step's price, here `last`.
@@ -18,21 +16,21 @@ price_after last (s ∷ ss) k = cond (nat_le k s.width) s.price (price_after s.p
 abbrev pub step_price : List Step → ℕ → ℕ
 step_price steps k = price_after 0 steps k
 
--- a step's price as it is read after a step of the price `before`: an offer's price under it is read as it
-abbrev pub price_read : Reading → ℕ → Step → ℕ
-price_read AsGiven before s = read_price s.price
-price_read Lifted before s = max before (read_price s.price)
+-- a step's price as it is read after a step of the price `before`: where prices rise, a price under it is read as it
+abbrev pub price_read : Bool → ℕ → Step → ℕ
+price_read false before s = read_price s.price
+price_read true before s = max before (read_price s.price)
 
 -- each step with its width and price as they are read
-abbrev pub read_from : Reading → ℕ → List Step → List Step
-read_from reading before [] = []
-read_from reading before (s ∷ ss) =
-    record { width = read_kwh s.width; price = price_read reading before s }
-    ∷ read_from reading (price_read reading before s) ss
+abbrev pub read_from : Bool → ℕ → List Step → List Step
+read_from rises before [] = []
+read_from rises before (s ∷ ss) =
+    record { width = read_kwh s.width; price = price_read rises before s }
+    ∷ read_from rises (price_read rises before s) ss
 
 -- the list of steps that a record stands for
-abbrev pub steps_of : Reading → StepTable → List Step
-steps_of reading t = read_from reading 0 (take (read_count t.count) t.steps)
+abbrev pub steps_of : Bool → StepTable → List Step
+steps_of rises t = read_from rises 0 (take (read_count t.count) t.steps)
 
 -- the price of kWh k, and a stretch end from k
 pub record LevelAt (price : ℕ → ℕ) (k : ℕ) (l : Level) : Type 0 where

@@ -19,5 +19,5 @@ pub(crate) fn read_energy(energy: u32) -> u32
 pub(crate) fn read_kwh(kwh: u32) -> u32
     ensures { result ≡ read_kwh kwh }
 {
-    kwh.min(MAX_KWH).max(1)
+    kwh.clamp(1, MAX_KWH)
 }

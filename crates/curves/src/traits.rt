@@ -10,9 +10,6 @@ pub trait Curve {
     // the price of each kWh
     ghost prices: { Self → ℕ → ℕ };
 
-    // no price is over 10,000,000
-    ghost bounded: { (c : Self) (k : ℕ) → prices c k ≤ 10000000 };
-
     /// The price of one kWh.
     fn price(&self, kwh: u32) -> u32
         ensures { result ≡ prices self.now (read_kwh kwh) };
@@ -28,6 +25,7 @@ pub trait Curve {
         let energy = read_energy(energy);
         let mut total = 0u64;
         let mut done = 0u32;
+        // An iterator of stretches for two loops is longer, and its end would need a proof of its own.
         while done < energy {
             let price = self.price(done + 1);
             let end = self.stretch_end(done + 1).min(energy);
@@ -36,6 +34,9 @@ pub trait Curve {
         }
         total
     }
+
+    // no price is over 10,000,000
+    ghost bounded: { (c : Self) (k : ℕ) → prices c k ≤ 10000000 };
 }
 
 /// A curve whose price never falls.
@@ -43,15 +44,22 @@ pub trait Offer: Curve {
     /// How many of the first `energy` kWh cost at most `price`; these come before the rest.
     fn count_at_most(&self, energy: u32, price: u32) -> u32
         ensures rises { NeverFalls (Self.Curve.prices self.now) }
-        ensures count { AtMost (Self.Curve.prices self.now) (read_energy energy) price result };
+        ensures count { AtMost (Self.Curve.prices self.now) (read_energy energy) price result }
+    {
+        count_before_dearer(self, energy, price)
+    }
+
+    // no price falls from one kWh to a later one
+    ghost rises: { (o : Self) → NeverFalls (Self.Curve.prices o) };
 }
 
-/// How many of the first `energy` kWh come before the first that costs more than `price`.
+// How many of the first `energy` kWh come before the first that costs more than `price`.
 pub(crate) fn count_before_dearer<C: Curve>(curve: &C, energy: u32, price: u32) -> u32
     ensures { BeforeDearer (C.prices curve.now) (read_energy energy) price result }
 {
     let energy = read_energy(energy);
     let mut done = 0u32;
+    // An iterator of stretches for two loops is longer, and its end would need a proof of its own.
     while done < energy {
         if curve.price(done + 1) > price {
             return done;

@@ -1,5 +1,6 @@
 // The calls of an hour, written shortly.
 use book::{Adjustments, BookRefusal, Entry, GuaranteedReading, Reading, UnitReading};
+use curves::Step;
 use settlement::{CompetitiveEnergies, Control};
 
 /// What a call answers.
@@ -61,62 +62,83 @@ pub(crate) fn commit(plant: u32, buyer: u32, volume: u32) -> Entry {
     }
 }
 
-/// The reading of a competitive unit by its fields, in the order of the rules.
-pub(crate) fn read_competitive(unit: u32, fields: &[u32; 17]) -> Reading {
+fn control(fields: [u32; 8]) -> Control {
+    let [p_act, type2, type3, type5, type6, type8, day, minute] = fields;
+    Control {
+        p_act,
+        type2,
+        type3,
+        type5,
+        type6,
+        type8,
+        day,
+        minute,
+    }
+}
+
+/// The reading of a competitive unit by its fields, in the order of the rules: a list, since the cases set one of them
+/// by its place.
+pub(crate) fn unit_reading(fields: [u32; 17]) -> UnitReading {
+    let [
+        net,
+        accepted,
+        lost,
+        limited,
+        executed,
+        asked,
+        p_act,
+        type2,
+        type3,
+        type5,
+        type6,
+        type8,
+        day,
+        minute,
+        opportunity,
+        planning,
+        cooperation,
+    ] = fields;
     let energies = CompetitiveEnergies {
-        net: fields[0],
-        accepted: fields[1],
-        lost: fields[2],
-        limited: fields[3],
-        executed: fields[4],
-        asked: fields[5],
-    };
-    let control = Control {
-        p_act: fields[6],
-        type2: fields[7],
-        type3: fields[8],
-        type5: fields[9],
-        type6: fields[10],
-        type8: fields[11],
-        day: fields[12],
-        minute: fields[13],
+        net,
+        accepted,
+        lost,
+        limited,
+        executed,
+        asked,
     };
     let adjustments = Adjustments {
-        opportunity: fields[14],
-        planning: fields[15],
-        cooperation: fields[16],
+        opportunity,
+        planning,
+        cooperation,
     };
-    Reading::Competitive {
-        unit,
-        reading: UnitReading {
-            energies,
-            adjustments,
-            control,
-        },
+    UnitReading {
+        energies,
+        adjustments,
+        control: control([p_act, type2, type3, type5, type6, type8, day, minute]),
     }
 }
 
 /// The reading of a guaranteed unit by its fields, in the order of the rules.
-pub(crate) fn read_guaranteed(unit: u32, fields: &[u32; 9]) -> Reading {
-    let control = Control {
-        p_act: fields[1],
-        type2: fields[2],
-        type3: fields[3],
-        type5: fields[4],
-        type6: fields[5],
-        type8: fields[6],
-        day: fields[7],
-        minute: fields[8],
-    };
-    Reading::Guaranteed {
-        unit,
-        reading: GuaranteedReading {
-            net: fields[0],
-            control,
-        },
+pub(crate) fn guaranteed_reading(fields: [u32; 9]) -> GuaranteedReading {
+    let [net, p_act, type2, type3, type5, type6, type8, day, minute] = fields;
+    GuaranteedReading {
+        net,
+        control: control([p_act, type2, type3, type5, type6, type8, day, minute]),
     }
+}
+
+pub(crate) fn read_competitive(unit: u32, reading: UnitReading) -> Reading {
+    Reading::Competitive { unit, reading }
+}
+
+pub(crate) fn read_guaranteed(unit: u32, reading: GuaranteedReading) -> Reading {
+    Reading::Guaranteed { unit, reading }
 }
 
 pub(crate) fn read_use(buyer: u32, used: u32) -> Reading {
     Reading::Use { buyer, used }
+}
+
+pub(crate) fn step(width: u32, price: u32) -> Step {
+    Step { width, price }
 }

@@ -1,9 +1,7 @@
 // Pseudo-random hours, each drawn from its number.
-use crate::failures::Failure;
-use crate::row_draws::{Drawn, draw_rows};
-use crate::runs::{Plan, Way};
+use crate::row_draws::Drawn;
+use crate::runs::{Cases, Plan};
 use crate::source::Source;
-use book::Book;
 use curves::{Offer, SteppedOffer, Tariff};
 use std::alloc::Global;
 
@@ -11,47 +9,41 @@ use std::alloc::Global;
 fn drawn_plan<G: Offer + Drawn, S: Offer + Drawn>(
     heap: Global,
     number: u32,
-) -> Result<Plan<G, S>, Failure> {
-    let mut source = Source::new(number);
+) -> anyhow::Result<Plan<G, S>> {
+    let mut source = Source::new(heap, number);
     let competitive = source.competitive;
     let guaranteed = source.guaranteed;
-    let mut plan = Plan::new(heap, source.header()?);
-    source.draw_entries(&mut plan.entries)?;
-    draw_rows(heap, &mut source, competitive, &mut plan.offers)?;
-    draw_rows(heap, &mut source, guaranteed, &mut plan.guaranteed)?;
-    source.draw_readings(&mut plan.readings)?;
-    draw_rows(heap, &mut source, competitive, &mut plan.rows)?;
-    draw_rows(heap, &mut source, guaranteed, &mut plan.paid)?;
-    Ok(plan)
+    Ok(Plan {
+        header: source.header()?,
+        entries: source.draw_entries()?,
+        offers: source.draw_rows(competitive)?,
+        guaranteed: source.draw_rows(guaranteed)?,
+        readings: source.draw_readings()?,
+        rows: source.draw_rows(competitive)?,
+        paid: source.draw_rows(guaranteed)?,
+        asked: Vec::new(heap),
+    })
 }
 
-fn run_drawn<G: Offer + Drawn, S: Offer + Drawn>(
-    heap: Global,
-    text: &mut String,
-    book: &mut Book,
-    number: u32,
-) -> Result<(), Failure> {
-    let way = match number % 3 {
-        0 => Way::AtOnce,
-        1 => Way::OneByOne,
-        _ => Way::ByName,
-    };
-    writeln!(text, "hour {number}")?;
-    let plan = drawn_plan::<G, S>(heap, number)?;
-    plan.run(heap, text, book, way, &[])
-}
+impl Cases {
+    // Every third hour is run in the same way: its number says which, so that a line of the report names the case.
+    fn run_drawn<G: Offer + Drawn, S: Offer + Drawn>(&mut self, number: u32) -> anyhow::Result<()> {
+        self.report.line(format_args!("hour {number}"))?;
+        let plan = drawn_plan::<G, S>(self.heap, number)?;
+        match number % 3 {
+            0 => self.run_at_once(&plan),
+            1 => self.run_one_by_one(&plan),
+            _ => self.run_by_name(&plan),
+        }
+    }
 
-/// Draws and runs one hour. The kinds of its guaranteed offers go by its number.
-pub(crate) fn drawn_hour(
-    heap: Global,
-    text: &mut String,
-    book: &mut Book,
-    number: u32,
-) -> Result<(), Failure> {
-    match number % 4 {
-        0 => run_drawn::<Tariff, Tariff>(heap, text, book, number),
-        1 => run_drawn::<SteppedOffer, SteppedOffer>(heap, text, book, number),
-        2 => run_drawn::<SteppedOffer, Tariff>(heap, text, book, number),
-        _ => run_drawn::<Tariff, SteppedOffer>(heap, text, book, number),
+    /// Draws and runs one hour. The kinds of its guaranteed offers go by its number.
+    pub(crate) fn drawn_hour(&mut self, number: u32) -> anyhow::Result<()> {
+        match number % 4 {
+            0 => self.run_drawn::<Tariff, Tariff>(number),
+            1 => self.run_drawn::<SteppedOffer, SteppedOffer>(number),
+            2 => self.run_drawn::<SteppedOffer, Tariff>(number),
+            _ => self.run_drawn::<Tariff, SteppedOffer>(number),
+        }
     }
 }

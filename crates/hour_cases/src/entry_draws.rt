@@ -14,46 +14,19 @@ const FEEDS: [u32; 20] = [0, 0, 0, 0, 0, 0, 0, 0, 0, 1, 1, 1, 1, 1, 1, 1, 1, 1, 
 
 const GROUPS: [u32; 14] = [1, 1, 1, 1, 1, 1, 2, 2, 2, 2, 2, 2, 0, 3];
 
-#[derive(Clone, Copy)]
-enum Kind {
-    Plant,
-    Buyer,
-    Competitive,
-    Guaranteed,
-    Commitment,
-    /// A correction, a unit put aside or taken back, or a late unit.
-    Change,
-}
-
 impl Source {
     /// Plants, buyers, units, commitments and changes, in this order.
-    pub(crate) fn draw_entries(&mut self, entries: &mut Vec<Entry>) -> Result<(), AllocError> {
-        self.add(entries, Kind::Plant, self.plants)?;
-        self.add(entries, Kind::Buyer, self.buyers)?;
-        self.add(entries, Kind::Competitive, self.competitive)?;
-        self.add(entries, Kind::Guaranteed, self.guaranteed)?;
+    pub(crate) fn draw_entries(&mut self) -> Result<Vec<Entry>, AllocError> {
+        let mut entries = Vec::new(self.heap);
+        entries.extend((0..self.plants).map(|_| plant(self.percentage())))?;
+        entries.extend((0..self.buyers).map(|_| buyer(self.percentage())))?;
+        entries.extend((0..self.competitive).map(|_| self.any_competitive()))?;
+        entries.extend((0..self.guaranteed).map(|_| self.any_guaranteed()))?;
         let commitments = self.random.below(11);
-        self.add(entries, Kind::Commitment, commitments)?;
+        entries.extend((0..commitments).map(|_| self.any_commitment()))?;
         let changes = self.random.below(9);
-        self.add(entries, Kind::Change, changes)
-    }
-
-    fn add(&mut self, entries: &mut Vec<Entry>, kind: Kind, count: u32) -> Result<(), AllocError> {
-        for _ in 0..count {
-            entries.push(self.any_entry(kind))?;
-        }
-        Ok(())
-    }
-
-    fn any_entry(&mut self, kind: Kind) -> Entry {
-        match kind {
-            Kind::Plant => plant(self.percentage()),
-            Kind::Buyer => buyer(self.percentage()),
-            Kind::Competitive => self.any_competitive(),
-            Kind::Guaranteed => self.any_guaranteed(),
-            Kind::Commitment => self.any_commitment(),
-            Kind::Change => self.any_change(),
-        }
+        entries.extend((0..changes).map(|_| self.any_change()))?;
+        Ok(entries)
     }
 
     fn percentage(&mut self) -> u32 {
@@ -102,6 +75,7 @@ impl Source {
         commit(plant, buyer, volume)
     }
 
+    // A correction, a unit put aside or taken back, or a late unit.
     fn any_change(&mut self) -> Entry {
         let group = self.random.one_of(&GROUPS);
         let count = if group == 2 {

@@ -1,156 +1,122 @@
 // Fixed hours: calls on both sides of the limits, full tables, and a book that is used again.
-use crate::calls::{buyer, commit, competitive, guaranteed, plant, read_use};
-use crate::failures::Failure;
+use crate::calls::{buyer, commit, competitive, guaranteed, plant, read_use, step};
 use crate::full_tables::{full_entries, full_readings};
 use crate::limit_entries::limit_entries;
 use crate::limit_readings::{last_readings, limit_readings};
-use crate::runs::{Plan, Way, enter_each, read_each};
-use book::{Book, Entry, Header, PriceRow};
-use curves::{CurveRefusal, Step, SteppedCost, SteppedOffer, Tariff};
-use std::alloc::{AllocError, Global};
+use crate::runs::{Cases, Plan, enter_by_name, read_by_name};
+use book::{Header, PriceRow};
+use curves::{SteppedCost, SteppedOffer, Tariff};
+use std::alloc::Global;
 
 const TARIFF: Tariff = Tariff { rate: 400 };
 
-fn offer() -> Result<SteppedOffer, CurveRefusal> {
-    let first = Step {
-        width: 100,
-        price: 300,
-    };
-    let second = Step {
-        width: 100,
-        price: 500,
-    };
-    SteppedOffer::new(&[first, second])
-}
-
-fn cost() -> Result<SteppedCost, CurveRefusal> {
-    let step = Step {
-        width: 100,
-        price: 350,
-    };
-    SteppedCost::new(&[step])
-}
-
 // An hour without calls, with so many equal rows for each group.
-fn plan_with_rows(heap: Global, count: usize) -> Result<Plan<Tariff, Tariff>, Failure> {
-    let offer = offer()?;
-    let cost = cost()?;
-    let mut plan = Plan::new(heap, Header::new(1_000, 10_000, 200, 30, 400)?);
-    for _ in 0..count {
-        plan.offers.push(offer)?;
-        plan.guaranteed.push(TARIFF)?;
-        plan.rows.push(PriceRow { offer, cost })?;
-        plan.paid.push(TARIFF)?;
-    }
-    Ok(plan)
+fn plan_with_rows(heap: Global, count: usize) -> anyhow::Result<Plan<Tariff, Tariff>> {
+    let offer = SteppedOffer::new(&[step(100, 300), step(100, 500)])?;
+    let cost = SteppedCost::new(&[step(100, 350)])?;
+    Ok(Plan {
+        header: Header::new(1_000, 10_000, 200, 30, 400)?,
+        entries: Vec::new(heap),
+        offers: vec![in heap; offer; count]?,
+        guaranteed: vec![in heap; TARIFF; count]?,
+        readings: Vec::new(heap),
+        rows: vec![in heap; PriceRow { offer, cost }; count]?,
+        paid: vec![in heap; TARIFF; count]?,
+        asked: Vec::new(heap),
+    })
 }
 
-fn nothing(heap: Global, text: &mut String, book: &mut Book) -> Result<(), Failure> {
-    let plan = plan_with_rows(heap, 0)?;
-    plan.run(heap, text, book, Way::ByName, &[0, 1])
-}
-
-fn limits(heap: Global, text: &mut String, book: &mut Book) -> Result<(), Failure> {
-    writeln!(text, "case limits")?;
-    let mut plan = plan_with_rows(heap, 8)?;
-    limit_entries(&mut plan.entries)?;
-    limit_readings(&mut plan.readings)?;
-    let numbers = [0, 1, 2, 3, 4, 5, 7, 8, u32::MAX];
-    plan.run(heap, text, book, Way::ByName, &numbers)
-}
-
-fn full_tables(heap: Global, text: &mut String, book: &mut Book) -> Result<(), Failure> {
-    writeln!(text, "case full tables")?;
-    let mut plan = plan_with_rows(heap, 130)?;
-    full_entries(&mut plan.entries)?;
-    full_readings(&mut plan.readings)?;
-    let numbers = [1, 32, 33, 64, 65, 128, 129];
-    plan.run(heap, text, book, Way::AtOnce, &numbers)
-}
-
-fn no_units(heap: Global, text: &mut String, book: &mut Book) -> Result<(), Failure> {
-    writeln!(text, "case plant without units")?;
-    let mut plan = plan_with_rows(heap, 0)?;
-    plan.entries
-        .extend(&[plant(0), buyer(0), commit(1, 1, 50)])?;
-    plan.readings.push(read_use(1, 7))?;
-    plan.run(heap, text, book, Way::OneByOne, &[])
-}
-
-fn small_entries(entries: &mut Vec<Entry>) -> Result<(), AllocError> {
-    entries.extend(&[
+// A small hour that is not read yet.
+fn small_plan(heap: Global) -> anyhow::Result<Plan<Tariff, Tariff>> {
+    let mut plan = plan_with_rows(heap, 1)?;
+    plan.entries.extend(&[
         plant(0),
         buyer(0),
         competitive(1, 40, 0),
         guaranteed(1, 30, 30, 0, 1),
         commit(1, 1, 90),
-    ])
-}
-
-fn small_plan(heap: Global) -> Result<Plan<Tariff, Tariff>, Failure> {
-    let mut plan = plan_with_rows(heap, 1)?;
-    small_entries(&mut plan.entries)?;
-    last_readings(&mut plan.readings)?;
+    ])?;
     Ok(plan)
 }
 
-fn small_hour(heap: Global, text: &mut String, book: &mut Book) -> Result<(), Failure> {
-    writeln!(text, "case small hour")?;
-    small_plan(heap)?.run(heap, text, book, Way::OneByOne, &[])
-}
+impl Cases {
+    fn nothing(&mut self) -> anyhow::Result<()> {
+        let mut plan = plan_with_rows(self.heap, 0)?;
+        plan.asked.extend(&[0, 1])?;
+        self.run_by_name(&plan)
+    }
 
-// The small hour without its readings.
-fn nothing_read(heap: Global, text: &mut String, book: &mut Book) -> Result<(), Failure> {
-    let mut plan = plan_with_rows(heap, 1)?;
-    small_entries(&mut plan.entries)?;
-    plan.run(heap, text, book, Way::OneByOne, &[])
-}
+    fn limits(&mut self) -> anyhow::Result<()> {
+        self.report.line("case limits")?;
+        let mut plan = plan_with_rows(self.heap, 8)?;
+        limit_entries(&mut plan.entries)?;
+        limit_readings(&mut plan.readings)?;
+        plan.asked.extend(&[0, 1, 2, 3, 4, 5, 7, 8, u32::MAX])?;
+        self.run_by_name(&plan)
+    }
 
-// The small hour is let go while it is open.
-fn let_open_go(
-    plan: &Plan<Tariff, Tariff>,
-    text: &mut String,
-    book: &mut Book,
-) -> Result<(), AllocError> {
-    let mut open = book.open(plan.header);
-    enter_each(text, &mut open, plan.entries.as_slice(), Way::ByName)
-}
+    fn full_tables(&mut self) -> anyhow::Result<()> {
+        self.report.line("case full tables")?;
+        let mut plan = plan_with_rows(self.heap, 130)?;
+        full_entries(&mut plan.entries)?;
+        full_readings(&mut plan.readings)?;
+        plan.asked.extend(&[1, 32, 33, 64, 65, 128, 129])?;
+        self.run_at_once(&plan)
+    }
 
-// The small hour is let go when it is closed and read.
-fn let_closed_go(
-    plan: &Plan<Tariff, Tariff>,
-    text: &mut String,
-    book: &mut Book,
-) -> Result<(), AllocError> {
-    let mut open = book.open(plan.header);
-    enter_each(text, &mut open, plan.entries.as_slice(), Way::ByName)?;
-    let mut closed = open.close(plan.offers.as_slice(), plan.guaranteed.as_slice());
-    read_each(text, &mut closed, plan.readings.as_slice(), Way::ByName)
-}
+    fn no_units(&mut self) -> anyhow::Result<()> {
+        self.report.line("case plant without units")?;
+        let mut plan = plan_with_rows(self.heap, 0)?;
+        plan.entries
+            .extend(&[plant(0), buyer(0), commit(1, 1, 50)])?;
+        plan.readings.push(read_use(1, 7))?;
+        self.run_one_by_one(&plan)
+    }
 
-fn hours_let_go(heap: Global, text: &mut String, book: &mut Book) -> Result<(), Failure> {
-    let plan = small_plan(heap)?;
-    writeln!(text, "case open hour let go")?;
-    let_open_go(&plan, text, book)?;
-    writeln!(text, "hour after it")?;
-    nothing_read(heap, text, book)?;
-    writeln!(text, "case closed hour let go")?;
-    let_closed_go(&plan, text, book)?;
-    writeln!(text, "hour after it")?;
-    nothing_read(heap, text, book)
-}
+    fn small_hour(&mut self) -> anyhow::Result<()> {
+        self.report.line("case small hour")?;
+        let mut plan = small_plan(self.heap)?;
+        last_readings(&mut plan.readings)?;
+        self.run_one_by_one(&plan)
+    }
 
-/// All fixed hours, on one book. No hour shows anything of those before it.
-pub(crate) fn fixed_hours(heap: Global, text: &mut String, book: &mut Book) -> Result<(), Failure> {
-    writeln!(text, "case nothing entered")?;
-    nothing(heap, text, book)?;
-    limits(heap, text, book)?;
-    full_tables(heap, text, book)?;
-    writeln!(text, "case nothing entered again")?;
-    nothing(heap, text, book)?;
-    no_units(heap, text, book)?;
-    small_hour(heap, text, book)?;
-    writeln!(text, "case nothing read")?;
-    nothing_read(heap, text, book)?;
-    hours_let_go(heap, text, book)
+    fn nothing_read(&mut self) -> anyhow::Result<()> {
+        let plan = small_plan(self.heap)?;
+        self.run_one_by_one(&plan)
+    }
+
+    fn open_hour_let_go(&mut self) -> anyhow::Result<()> {
+        self.report.line("case open hour let go")?;
+        let plan = small_plan(self.heap)?;
+        plan.opened(&mut self.book, &mut self.report, enter_by_name)?;
+        self.report.line("hour after it")?;
+        self.nothing_read()
+    }
+
+    // The small hour is let go when it is closed and read.
+    fn closed_hour_let_go(&mut self) -> anyhow::Result<()> {
+        self.report.line("case closed hour let go")?;
+        let mut plan = small_plan(self.heap)?;
+        last_readings(&mut plan.readings)?;
+        let open = plan.opened(&mut self.book, &mut self.report, enter_by_name)?;
+        plan.closed(open, &mut self.report, read_by_name)?;
+        self.report.line("hour after it")?;
+        self.nothing_read()
+    }
+
+    /// All fixed hours, on one book. No hour shows anything of those before it.
+    pub(crate) fn fixed_hours(&mut self) -> anyhow::Result<()> {
+        self.report.line("case nothing entered")?;
+        self.nothing()?;
+        self.limits()?;
+        self.full_tables()?;
+        self.report.line("case nothing entered again")?;
+        self.nothing()?;
+        self.no_units()?;
+        self.small_hour()?;
+        self.report.line("case nothing read")?;
+        self.nothing_read()?;
+        self.open_hour_let_go()?;
+        self.closed_hour_let_go()
+    }
 }

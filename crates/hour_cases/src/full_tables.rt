@@ -2,9 +2,7 @@
 use crate::calls::{
     buyer, commit, competitive, correct, guaranteed, plant, put_aside, read_use, take_back,
 };
-use crate::limit_readings::{
-    ACCEPTED, GUARANTEED_P_ACT, NET, P_ACT, competitive_with, guaranteed_with,
-};
+use crate::limit_readings::{competitive_with, guaranteed_with};
 use book::{Entry, Reading};
 use std::alloc::AllocError;
 
@@ -68,11 +66,16 @@ pub(crate) fn full_entries(entries: &mut Vec<Entry>) -> Result<(), AllocError> {
 
 /// Readings of every unit and every buyer, and of those past the last.
 pub(crate) fn full_readings(readings: &mut Vec<Reading>) -> Result<(), AllocError> {
-    for number in 1..130u32 {
-        let fields = [(NET, 2 * number), (ACCEPTED, number), (P_ACT, number % 7)];
-        readings.push(competitive_with(number, &fields))?;
-        let fields = [(NET, number), (GUARANTEED_P_ACT, number % 5)];
-        readings.push(guaranteed_with(number, &fields))?;
+    for number in 1..130 {
+        readings.push(competitive_with(number, |r| {
+            r.energies.net = 2 * number;
+            r.energies.accepted = number;
+            r.control.p_act = number % 7;
+        }))?;
+        readings.push(guaranteed_with(number, |r| {
+            r.net = number;
+            r.control.p_act = number % 5;
+        }))?;
         readings.push(read_use(number, number))?;
     }
     Ok(())

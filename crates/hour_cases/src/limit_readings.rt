@@ -1,117 +1,120 @@
 // Readings on both sides of each limit, in one hour.
-use crate::calls::{read_competitive, read_guaranteed, read_use};
-use crate::reading_draws::{COMPETITIVE_FIELDS, GUARANTEED_FIELDS};
-use book::Reading;
+use crate::calls::{guaranteed_reading, read_competitive, read_guaranteed, read_use, unit_reading};
+use crate::reading_draws::{COMPETITIVE_FIELDS, Field, GUARANTEED_FIELDS};
+use book::{GuaranteedReading, Reading, UnitReading};
 use std::alloc::AllocError;
+use std::array;
 
-// The places of fields in a competitive unit's reading.
-pub const NET: usize = 0;
-
-pub const ACCEPTED: usize = 1;
-
-const LOST: usize = 2;
-
-const LIMITED: usize = 3;
-
-const ASKED: usize = 5;
-
-pub const P_ACT: usize = 6;
-
-const MINUTE: usize = 13;
-
-const OPPORTUNITY: usize = 14;
-
-const PLANNING: usize = 15;
-
-const COOPERATION: usize = 16;
-
-// The places of fields in a guaranteed unit's reading.
-pub const GUARANTEED_P_ACT: usize = 1;
-
-const GUARANTEED_DAY: usize = 7;
-
-/// A reading with these fields, by their places, and the others 0.
-pub(crate) fn competitive_with(unit: u32, set: &[(usize, u32)]) -> Reading {
-    let mut fields = [0; 17];
-    for (place, value) in set {
-        if *place < 17 {
-            fields[*place] = *value;
-        }
-    }
-    read_competitive(unit, &fields)
+// A reading in which these fields are set, and the others 0.
+fn with<R: Default + Drop, F: FnOnce(&mut R)>(set: F) -> R
+    requires { F.IsAlwaysCallable set }
+{
+    let mut reading = R::default();
+    set(&mut reading);
+    reading
 }
 
-pub(crate) fn guaranteed_with(unit: u32, set: &[(usize, u32)]) -> Reading {
-    let mut fields = [0; 9];
-    for (place, value) in set {
-        if *place < 9 {
-            fields[*place] = *value;
-        }
-    }
-    read_guaranteed(unit, &fields)
+/// The reading of a competitive unit in which these fields are set.
+pub(crate) fn competitive_with<F: FnOnce(&mut UnitReading)>(unit: u32, set: F) -> Reading
+    requires { F.IsAlwaysCallable set }
+{
+    read_competitive(unit, with(set))
+}
+
+/// The reading of a guaranteed unit in which these fields are set.
+pub(crate) fn guaranteed_with<F: FnOnce(&mut GuaranteedReading)>(unit: u32, set: F) -> Reading
+    requires { F.IsAlwaysCallable set }
+{
+    read_guaranteed(unit, with(set))
 }
 
 // There are 4 competitive and 7 guaranteed units, and 2 buyers.
 fn by_number(readings: &mut Vec<Reading>) -> Result<(), AllocError> {
     for number in [0, 1, 2, 3, 4, 5, 7, 8] {
-        readings.push(competitive_with(number, &[]))?;
-        readings.push(guaranteed_with(number, &[]))?;
+        readings.push(read_competitive(number, UnitReading::default()))?;
+        readings.push(read_guaranteed(number, GuaranteedReading::default()))?;
         readings.push(read_use(number, 0))?;
     }
     Ok(())
 }
 
-// The lost energy covers any energy made under a technical limit.
-fn competitive_limits(readings: &mut Vec<Reading>) -> Result<(), AllocError> {
-    for (place, kind) in COMPETITIVE_FIELDS.iter().enumerate() {
-        let most = kind.most();
-        let over = most.saturating_add(1);
-        readings.push(competitive_with(1, &[(LOST, 2_000_000), (place, most)]))?;
-        readings.push(competitive_with(1, &[(LOST, 2_000_000), (place, over)]))?;
+/// Fields that are 0 but for the one at this place.
+pub(crate) fn only<const N: usize>(place: usize, value: u32) -> [u32; N] {
+    array::from_fn(|at| if at == place { value } else { 0 })
+}
+
+// One field at its limit, and then over it.
+fn field_limits<R: Fn(usize, u32) -> Reading>(
+    readings: &mut Vec<Reading>,
+    kinds: &[Field],
+    read: R,
+) -> Result<(), AllocError>
+    requires { R.IsAlwaysCallable read }
+{
+    for (place, kind) in kinds.iter().enumerate() {
+        readings.push(read(place, kind.most()))?;
+        readings.push(read(place, kind.most() + 1))?;
     }
     Ok(())
 }
 
-fn guaranteed_limits(readings: &mut Vec<Reading>) -> Result<(), AllocError> {
-    for (place, kind) in GUARANTEED_FIELDS.iter().enumerate() {
-        let most = kind.most();
-        let over = most.saturating_add(1);
-        readings.push(guaranteed_with(1, &[(place, most)]))?;
-        readings.push(guaranteed_with(1, &[(place, over)]))?;
-    }
-    Ok(())
+// The lost energy covers any energy made under a technical limit.
+fn competitive_limit(place: usize, value: u32) -> Reading {
+    let mut reading = unit_reading(only(place, value));
+    reading.energies.lost = reading.energies.lost.max(2_000_000);
+    read_competitive(1, reading)
+}
+
+fn guaranteed_limit(place: usize, value: u32) -> Reading {
+    read_guaranteed(1, guaranteed_reading(only(place, value)))
 }
 
 // The energy made under a technical limit, and a buyer's use.
 fn other_limits(readings: &mut Vec<Reading>) -> Result<(), AllocError> {
-    readings.extend(&[
-        competitive_with(1, &[(ACCEPTED, 5), (LOST, 5), (LIMITED, 10)]),
-        competitive_with(1, &[(ACCEPTED, 5), (LOST, 5), (LIMITED, 11)]),
-        competitive_with(
-            1,
-            &[
-                (ACCEPTED, 2_000_000),
-                (LOST, 2_000_000),
-                (LIMITED, 2_000_000),
-            ],
-        ),
-        read_use(1, 0),
-        read_use(1, 50_000_001),
-        read_use(1, 50_000_000),
-    ])
+    for limited in [10, 11] {
+        readings.push(competitive_with(1, |r| {
+            r.energies.accepted = 5;
+            r.energies.lost = 5;
+            r.energies.limited = limited;
+        }))?;
+    }
+    readings.push(competitive_with(1, |r| {
+        r.energies.accepted = 2_000_000;
+        r.energies.lost = 2_000_000;
+        r.energies.limited = 2_000_000;
+    }))?;
+    for used in [0, 50_000_001, 50_000_000] {
+        readings.push(read_use(1, used))?;
+    }
+    Ok(())
 }
 
 // The first row that applies answers.
 fn against_two_rows(readings: &mut Vec<Reading>) -> Result<(), AllocError> {
     readings.extend(&[
-        competitive_with(5, &[(NET, 2_000_001)]),
-        competitive_with(1, &[(NET, 2_000_001), (PLANNING, 100_000_001)]),
-        competitive_with(1, &[(LIMITED, 2_000_001)]),
-        competitive_with(1, &[(ASKED, 2), (OPPORTUNITY, 100_000_001)]),
-        competitive_with(1, &[(LIMITED, 1), (MINUTE, 1_440)]),
-        competitive_with(1, &[(LIMITED, 1), (COOPERATION, 100_000_001)]),
-        guaranteed_with(8, &[(GUARANTEED_DAY, 401)]),
-        guaranteed_with(1, &[(GUARANTEED_P_ACT, 2_000_001), (GUARANTEED_DAY, 401)]),
+        competitive_with(5, |r| r.energies.net = 2_000_001),
+        competitive_with(1, |r| {
+            r.energies.net = 2_000_001;
+            r.adjustments.planning = 100_000_001;
+        }),
+        competitive_with(1, |r| r.energies.limited = 2_000_001),
+        competitive_with(1, |r| {
+            r.energies.asked = 2;
+            r.adjustments.opportunity = 100_000_001;
+        }),
+        competitive_with(1, |r| {
+            r.energies.limited = 1;
+            r.control.minute = 1_440;
+        }),
+        competitive_with(1, |r| {
+            r.energies.limited = 1;
+            r.adjustments.cooperation = 100_000_001;
+        }),
+        guaranteed_with(8, |r| r.control.day = 401),
+        guaranteed_with(1, |r| {
+            r.control.p_act = 2_000_001;
+            r.control.day = 401;
+        }),
         read_use(3, 50_000_001),
     ])
 }
@@ -119,11 +122,16 @@ fn against_two_rows(readings: &mut Vec<Reading>) -> Result<(), AllocError> {
 /// Readings within the limits. There may be no buyer 2.
 pub(crate) fn last_readings(readings: &mut Vec<Reading>) -> Result<(), AllocError> {
     readings.extend(&[
-        competitive_with(
-            1,
-            &[(NET, 130), (ACCEPTED, 110), (LIMITED, 20), (P_ACT, 30)],
-        ),
-        guaranteed_with(1, &[(NET, 90), (GUARANTEED_P_ACT, 10)]),
+        competitive_with(1, |r| {
+            r.energies.net = 130;
+            r.energies.accepted = 110;
+            r.energies.limited = 20;
+            r.control.p_act = 30;
+        }),
+        guaranteed_with(1, |r| {
+            r.net = 90;
+            r.control.p_act = 10;
+        }),
         read_use(2, 7),
     ])
 }
@@ -131,8 +139,8 @@ pub(crate) fn last_readings(readings: &mut Vec<Reading>) -> Result<(), AllocErro
 /// The readings of the hour.
 pub(crate) fn limit_readings(readings: &mut Vec<Reading>) -> Result<(), AllocError> {
     by_number(readings)?;
-    competitive_limits(readings)?;
-    guaranteed_limits(readings)?;
+    field_limits(readings, &COMPETITIVE_FIELDS, competitive_limit)?;
+    field_limits(readings, &GUARANTEED_FIELDS, guaranteed_limit)?;
     other_limits(readings)?;
     against_two_rows(readings)?;
     last_readings(readings)

@@ -1,17 +1,14 @@
 // Headers, lists of steps and rates on both sides of their limits, and units that come with their rows.
-ghost use Rattle.std.specs.Prelude.{◌<◌};
-
-use crate::calls::plant;
-use crate::text::{answer_line, refusal_line, taken_line};
-use book::Header;
+use crate::calls::{plant, step};
+use crate::limit_readings::only;
+use crate::report::Report;
+use book::{Header, UnitRefusal};
 use curves::{Step, SteppedCost, SteppedOffer, Tariff};
 use std::alloc::AllocError;
 use table::Table;
 
-// The limits of a header's fields, and the first numbers over them.
+// The limits of a header's fields.
 const MOST: [u32; 5] = [10_000_000, 50_000, 1_000_000, 10_000_000, 10_000_000];
-
-const OVER: [u32; 5] = [10_000_001, 50_001, 1_000_001, 10_000_001, 10_000_001];
 
 // Lists of equal steps: how many, their width and their price.
 const EQUAL_STEPS: [(usize, u32, u32); 11] = [
@@ -28,131 +25,126 @@ const EQUAL_STEPS: [(usize, u32, u32); 11] = [
     (11, 1, 10_000_001),
 ];
 
-// Lists of two steps: the width and the price of each.
-const TWO_STEPS: [(u32, u32, u32, u32); 4] = [
-    (1, 5, 1, 5),
-    (1, 5, 1, 4),
-    (1, 20_000_000, 1, 15_000_000),
-    (1, 10_000_001, 0, 10_000_001),
-];
+// A competitive unit to be added with its rows; no `Entry`, which may be of any other kind.
+#[derive(Clone, Copy)]
+struct NewUnit {
+    plant: u32,
+    declared: u32,
+    internal: u32,
+}
 
-fn header_line(text: &mut String, fields: &[u32; 5]) -> Result<(), AllocError> {
-    match Header::new(fields[0], fields[1], fields[2], fields[3], fields[4]) {
-        Ok(_) => writeln!(text, "taken"),
-        Err(refusal) => refusal_line(text, refusal.number()),
+fn new_unit(plant: u32, declared: u32, internal: u32) -> NewUnit {
+    NewUnit {
+        plant,
+        declared,
+        internal,
     }
 }
 
-// One field at its limit, and then over it.
-fn header_limits(text: &mut String, place: usize) -> Result<(), AllocError>
-    requires { place < 5 }
-{
-    let mut fields = [0; 5];
-    fields[place] = MOST[place];
-    header_line(text, &fields)?;
-    fields[place] = OVER[place];
-    header_line(text, &fields)
-}
-
-fn headers(text: &mut String) -> Result<(), AllocError> {
-    writeln!(text, "case headers")?;
-    for place in 0..5usize {
-        header_limits(text, place)?;
+impl Report {
+    // Whether what would make this is taken.
+    fn taken<T: Drop, E: Into<UnitRefusal> + Drop>(
+        &mut self,
+        made: Result<T, E>,
+    ) -> Result<(), AllocError> {
+        self.outcome(made.map(|_| "taken"))
     }
-    header_line(text, &MOST)?;
-    header_line(text, &OVER)
-}
 
-// Whether the list makes an offer, and whether it makes a cost curve.
-fn list_lines(text: &mut String, list: &[Step]) -> Result<(), AllocError> {
-    taken_line(text, SteppedOffer::new(list))?;
-    taken_line(text, SteppedCost::new(list))
-}
-
-fn equal_steps(text: &mut String) -> Result<(), AllocError> {
-    for (count, width, price) in EQUAL_STEPS {
-        let steps = [Step { width, price }; 11];
-        list_lines(text, &steps[0..count.min(11)])?;
+    fn header(&mut self, fields: [u32; 5]) -> Result<(), AllocError> {
+        let [ceiling, coefficient, base, saving, rate] = fields;
+        self.taken(Header::new(ceiling, coefficient, base, saving, rate))
     }
-    Ok(())
-}
 
-fn two_steps(text: &mut String) -> Result<(), AllocError> {
-    for (width, price, next_width, next_price) in TWO_STEPS {
-        let first = Step { width, price };
-        let second = Step {
-            width: next_width,
-            price: next_price,
-        };
-        list_lines(text, &[first, second])?;
+    fn headers(&mut self) -> Result<(), AllocError> {
+        self.line("case headers")?;
+        let over = MOST.map(|most| most.saturating_add(1));
+        for (place, (most, over)) in MOST.iter().zip(over.iter()).enumerate() {
+            self.header(only(place, *most))?;
+            self.header(only(place, *over))?;
+        }
+        self.header(MOST)?;
+        self.header(over)
     }
-    Ok(())
-}
 
-fn rates(text: &mut String) -> Result<(), AllocError> {
-    for rate in [0, 10_000_000, 10_000_001] {
-        taken_line(text, Tariff::new(rate))?;
+    // Whether the list makes an offer, and whether it makes a cost curve.
+    fn list(&mut self, list: &[Step]) -> Result<(), AllocError> {
+        self.taken(SteppedOffer::new(list))?;
+        self.taken(SteppedCost::new(list))
     }
-    Ok(())
-}
 
-// A unit whose rows are an offer of these steps.
-fn priced_unit(
-    text: &mut String,
-    table: &mut Table,
-    unit: (u32, u32, u32),
-    list: &[Step],
-) -> Result<(), AllocError> {
-    let (plant, declared, internal) = unit;
-    match table.add_priced(plant, declared, internal, SteppedOffer::new(list)) {
-        Ok((number, _)) => writeln!(text, "{number}"),
-        Err(refusal) => refusal_line(text, refusal.number()),
+    fn equal_steps(&mut self) -> Result<(), AllocError> {
+        for (count, width, price) in EQUAL_STEPS {
+            let steps = [step(width, price); 11];
+            self.list(&steps[..count.min(11)])?;
+        }
+        Ok(())
     }
-}
 
-// A unit with rows, with a refused number of steps, and with a refused price.
-fn each_outcome(
-    text: &mut String,
-    table: &mut Table,
-    unit: (u32, u32, u32),
-) -> Result<(), AllocError> {
-    let cheap = Step { width: 1, price: 5 };
-    let dear = Step {
-        width: 1,
-        price: 10_000_001,
-    };
-    priced_unit(text, table, unit, &[cheap])?;
-    priced_unit(text, table, unit, &[])?;
-    priced_unit(text, table, unit, &[dear])
-}
-
-fn many_units(text: &mut String, table: &mut Table) -> Result<(), AllocError> {
-    for _ in 0..126 {
-        priced_unit(text, table, (1, 5, 0), &[Step { width: 1, price: 5 }])?;
+    fn two_steps(&mut self) -> Result<(), AllocError> {
+        self.list(&[step(1, 5), step(1, 5)])?;
+        self.list(&[step(1, 5), step(1, 4)])?;
+        self.list(&[step(1, 20_000_000), step(1, 15_000_000)])?;
+        self.list(&[step(1, 10_000_001), step(0, 10_000_001)])
     }
-    Ok(())
-}
 
-// The refusals of the book come before those of the rows.
-fn priced_units(text: &mut String) -> Result<(), AllocError> {
-    writeln!(text, "case units with their rows")?;
-    let mut table = Table::empty();
-    answer_line(text, table.enter(plant(0)))?;
-    each_outcome(text, &mut table, (1, 5, 0))?;
-    each_outcome(text, &mut table, (2, 5, 0))?;
-    each_outcome(text, &mut table, (1, 5, 2_001))?;
-    each_outcome(text, &mut table, (1, 2_000_001, 0))?;
-    many_units(text, &mut table)?;
-    each_outcome(text, &mut table, (1, 5, 0))?;
-    each_outcome(text, &mut table, (2, 5, 0))
-}
+    fn rates(&mut self) -> Result<(), AllocError> {
+        for rate in [0, 10_000_000, 10_000_001] {
+            self.taken(Tariff::new(rate))?;
+        }
+        Ok(())
+    }
 
-/// What is made before an hour, or with the outcome of making something else.
-pub(crate) fn makings(text: &mut String) -> Result<(), AllocError> {
-    headers(text)?;
-    writeln!(text, "case step lists")?;
-    equal_steps(text)?;
-    two_steps(text)?;
-    rates(text)?;
-    priced_units(text)
+    // A unit whose rows are an offer of these steps.
+    fn priced_unit(
+        &mut self,
+        table: &mut Table,
+        unit: NewUnit,
+        list: &[Step],
+    ) -> Result<(), AllocError> {
+        let NewUnit {
+            plant,
+            declared,
+            internal,
+        } = unit;
+        let added = table.add_priced(plant, declared, internal, SteppedOffer::new(list));
+        self.outcome(added.map(|(number, _)| number))
+    }
+
+    // A unit with rows, with a refused number of steps, and with a refused price.
+    fn each_outcome(&mut self, table: &mut Table, unit: NewUnit) -> Result<(), AllocError> {
+        self.priced_unit(table, unit, &[step(1, 5)])?;
+        self.priced_unit(table, unit, &[])?;
+        self.priced_unit(table, unit, &[step(1, 10_000_001)])
+    }
+
+    fn many_units(&mut self, table: &mut Table) -> Result<(), AllocError> {
+        for _ in 0..126 {
+            self.priced_unit(table, new_unit(1, 5, 0), &[step(1, 5)])?;
+        }
+        Ok(())
+    }
+
+    // The refusals of the book come before those of the rows.
+    fn priced_units(&mut self) -> Result<(), AllocError> {
+        self.line("case units with their rows")?;
+        let mut table = Table::empty();
+        self.outcome(table.enter(plant(0)))?;
+        self.each_outcome(&mut table, new_unit(1, 5, 0))?;
+        self.each_outcome(&mut table, new_unit(2, 5, 0))?;
+        self.each_outcome(&mut table, new_unit(1, 5, 2_001))?;
+        self.each_outcome(&mut table, new_unit(1, 2_000_001, 0))?;
+        self.many_units(&mut table)?;
+        self.each_outcome(&mut table, new_unit(1, 5, 0))?;
+        self.each_outcome(&mut table, new_unit(2, 5, 0))
+    }
+
+    /// What is made before an hour, or with the outcome of making something else.
+    pub(crate) fn makings(&mut self) -> Result<(), AllocError> {
+        self.headers()?;
+        self.line("case step lists")?;
+        self.equal_steps()?;
+        self.two_steps()?;
+        self.rates()?;
+        self.priced_units()
+    }
 }

@@ -1,5 +1,7 @@
 // The readings of a pseudo-random hour.
-use crate::calls::{read_competitive, read_guaranteed, read_use};
+ghost use Rattle.std.specs.Prelude.{◌≤◌};
+
+use crate::calls::{guaranteed_reading, read_competitive, read_guaranteed, read_use, unit_reading};
 use crate::source::Source;
 use book::Reading;
 use std::alloc::AllocError;
@@ -53,7 +55,9 @@ pub const GUARANTEED_FIELDS: [Field; 9] = [
 
 impl Field {
     /// The most that a reading may have.
-    pub(crate) fn most(self) -> u32 {
+    pub(crate) fn most(self) -> u32
+        ensures { result ≤ 100_000_000 }
+    {
         match self {
             Field::Energy | Field::Half | Field::Part => 2_000_000,
             Field::Mark => 1,
@@ -67,94 +71,99 @@ impl Field {
         match self {
             Field::Energy => source.random.below(source.energy),
             Field::Half => source.random.below(source.energy / 2),
-            Field::Part => source.random.often_none(source.energy / 8),
+            Field::Part => source.random.often_zero(source.energy / 8),
             Field::Mark => source.random.below(2),
             Field::Day => source.random.below(4),
             Field::Minute => source.random.one_of(&[0, 779, 780, 781, 1_439]),
-            Field::Gain => source.random.often_none(source.gain),
-            Field::Penalty => source.random.often_none(source.penalty),
+            Field::Gain => source.random.often_zero(source.gain),
+            Field::Penalty => source.random.often_zero(source.penalty),
         }
     }
-}
-
-#[derive(Clone, Copy)]
-enum Meter {
-    Competitive,
-    Guaranteed,
-    Use,
 }
 
 impl Source {
     /// Most units and buyers are read once, and then some again, or such as are not there.
-    pub(crate) fn draw_readings(&mut self, readings: &mut Vec<Reading>) -> Result<(), AllocError> {
-        self.read_most(readings, Meter::Competitive, self.competitive)?;
-        self.read_most(readings, Meter::Guaranteed, self.guaranteed)?;
-        self.read_most(readings, Meter::Use, self.buyers)?;
+    pub(crate) fn draw_readings(&mut self) -> Result<Vec<Reading>, AllocError> {
+        let mut readings = Vec::new(self.heap);
+        self.read_most(
+            &mut readings,
+            self.competitive,
+            Source::any_competitive_reading,
+        )?;
+        self.read_most(
+            &mut readings,
+            self.guaranteed,
+            Source::any_guaranteed_reading,
+        )?;
+        self.read_most(&mut readings, self.buyers, Source::any_use)?;
         for _ in 0..self.random.below(5) {
             readings.push(self.any_reading())?;
         }
-        Ok(())
+        Ok(readings)
     }
 
-    fn read_most(
+    fn read_most<R: Fn(&mut Source, u32) -> Reading>(
         &mut self,
         readings: &mut Vec<Reading>,
-        meter: Meter,
         count: u32,
-    ) -> Result<(), AllocError> {
-        for before in 0..count {
+        read: R,
+    ) -> Result<(), AllocError>
+        requires { R.IsAlwaysCallable read }
+    {
+        for number in 1..=count {
             if self.random.below(8) != 0 {
-                readings.push(self.reading_of(meter, before + 1))?;
+                readings.push(read(self, number))?;
             }
         }
         Ok(())
     }
 
+    // A reading of what was read before, or was never there.
     fn any_reading(&mut self) -> Reading {
-        let (meter, count) = match self.random.below(3) {
-            0 => (Meter::Competitive, self.competitive),
-            1 => (Meter::Guaranteed, self.guaranteed),
-            _ => (Meter::Use, self.buyers),
-        };
-        let number = self.random.one_up_to(count.saturating_add(1));
-        self.reading_of(meter, number)
+        match self.random.below(3) {
+            0 => self.read_one(self.competitive, Source::any_competitive_reading),
+            1 => self.read_one(self.guaranteed, Source::any_guaranteed_reading),
+            _ => self.read_one(self.buyers, Source::any_use),
+        }
     }
 
-    fn reading_of(&mut self, meter: Meter, number: u32) -> Reading {
-        match meter {
-            Meter::Competitive => {
-                let mut fields = [0; 17];
-                self.draw_fields(&COMPETITIVE_FIELDS, &mut fields);
-                read_competitive(number, &fields)
-            }
-            Meter::Guaranteed => {
-                let mut fields = [0; 9];
-                self.draw_fields(&GUARANTEED_FIELDS, &mut fields);
-                read_guaranteed(number, &fields)
-            }
-            Meter::Use => read_use(number, self.any_use()),
-        }
+    // One of so many, or the one past them.
+    fn read_one<R: Fn(&mut Source, u32) -> Reading>(&mut self, count: u32, read: R) -> Reading
+        requires { R.IsAlwaysCallable read }
+    {
+        let number = self.random.one_up_to(count.saturating_add(1));
+        read(self, number)
+    }
+
+    fn any_competitive_reading(&mut self, unit: u32) -> Reading {
+        read_competitive(unit, unit_reading(self.draw_fields(COMPETITIVE_FIELDS)))
+    }
+
+    fn any_guaranteed_reading(&mut self, unit: u32) -> Reading {
+        read_guaranteed(
+            unit,
+            guaranteed_reading(self.draw_fields(GUARANTEED_FIELDS)),
+        )
     }
 
     // One reading in twelve has a field over its limit.
-    fn draw_fields(&mut self, kinds: &[Field], fields: &mut [u32]) {
-        for (field, kind) in fields.iter_mut().zip(kinds.iter()) {
-            *field = kind.draw(self);
-        }
+    fn draw_fields<const N: usize>(&mut self, kinds: [Field; N]) -> [u32; N] {
+        let mut fields = kinds.map(|kind| kind.draw(self));
         if self.random.below(12) == 0 {
-            let place = self.random.below(kinds.len().min(100) as u32) as usize;
-            if place < kinds.len() && place < fields.len() {
-                fields[place] = kinds[place].most().saturating_add(1);
+            if let Some(place) = self.random.place(N) {
+                fields[place] = kinds[place].most() + 1;
             }
         }
+        fields
     }
 
-    fn any_use(&mut self) -> u32 {
-        match self.random.below(12) {
+    fn any_use(&mut self, buyer: u32) -> Reading {
+        let used = match self.random.below(12) {
             0..=3 => 0,
             4 => 50_000_000,
             5 => 50_000_001,
             _ => self.random.below(self.energy),
-        }
+        };
+        read_use(buyer, used)
     }
 }

@@ -1,91 +1,90 @@
 // The offers and the price rows of a pseudo-random hour.
-use crate::failures::Failure;
-use crate::source::{Source, any_price};
+use crate::calls::step;
+use crate::source::Source;
 use book::PriceRow;
 use curves::{Step, SteppedCost, SteppedOffer, Tariff};
-use std::alloc::{AllocError, Global};
+use std::alloc::AllocError;
 
 /// A row that closing or settling takes for a unit.
 pub trait Drawn: Drop {
-    fn draw(heap: Global, source: &mut Source) -> Result<Self, Failure>;
+    fn draw(source: &mut Source) -> anyhow::Result<Self>;
 }
 
 impl Drawn for SteppedOffer {
-    fn draw(heap: Global, source: &mut Source) -> Result<SteppedOffer, Failure> {
-        let list = rising_steps(heap, source)?;
-        Ok(SteppedOffer::new(list.as_slice())?)
+    fn draw(source: &mut Source) -> anyhow::Result<SteppedOffer> {
+        let steps = source.rising_steps()?;
+        Ok(SteppedOffer::new(steps.as_slice())?)
+    }
+}
+
+impl Drawn for SteppedCost {
+    fn draw(source: &mut Source) -> anyhow::Result<SteppedCost> {
+        let steps = source.any_steps()?;
+        Ok(SteppedCost::new(steps.as_slice())?)
     }
 }
 
 impl Drawn for Tariff {
-    fn draw(_heap: Global, source: &mut Source) -> Result<Tariff, Failure> {
-        let rate = if source.random.below(2) == 0 {
-            source.rate
-        } else {
-            any_price(&mut source.random, source.price)
+    fn draw(source: &mut Source) -> anyhow::Result<Tariff> {
+        let rate = match source.random.below(2) {
+            0 => source.rate,
+            _ => source.any_price(),
         };
         Ok(Tariff::new(rate)?)
     }
 }
 
-impl Drawn for PriceRow<SteppedOffer, SteppedCost> {
-    fn draw(
-        heap: Global,
-        source: &mut Source,
-    ) -> Result<PriceRow<SteppedOffer, SteppedCost>, Failure> {
-        let offer = <SteppedOffer as Drawn>::draw(heap, source)?;
-        let list = any_steps(heap, source)?;
-        let cost = SteppedCost::new(list.as_slice())?;
-        Ok(PriceRow { offer, cost })
+impl<O: Drawn, C: Drawn> Drawn for PriceRow<O, C> {
+    fn draw(source: &mut Source) -> anyhow::Result<PriceRow<O, C>> {
+        Ok(PriceRow {
+            offer: O::draw(source)?,
+            cost: C::draw(source)?,
+        })
     }
 }
 
-fn any_width(source: &mut Source) -> u32 {
-    source.random.below(source.energy / 3).saturating_add(1)
-}
-
-// One to four steps whose prices never fall.
-fn rising_steps(heap: Global, source: &mut Source) -> Result<Vec<Step>, AllocError> {
-    let mut steps = Vec::new(heap);
-    let mut level = source.random.below(3);
-    for _ in 0..source.random.below(4) + 1 {
-        let width = any_width(source);
-        let price = level.saturating_mul(source.price);
-        steps.push(Step { width, price })?;
-        level = level.saturating_add(source.random.below(3));
+impl Source {
+    // One to four steps, with these prices.
+    fn steps<F: FnMut(&mut Source) -> u32>(&mut self, mut price: F) -> Result<Vec<Step>, AllocError>
+        requires { F.IsAlwaysCallable price }
+    {
+        // In a chain, what `collect` asks stays open: that `price`, which changes at each call, may be called again.
+        let mut steps = Vec::new(self.heap);
+        for _ in 0..self.random.below(4) + 1 {
+            let width = self.random.below(self.energy / 3).saturating_add(1);
+            steps.push(step(width, price(self)))?;
+        }
+        Ok(steps)
     }
-    Ok(steps)
-}
 
-// One to four steps whose prices may fall.
-fn any_steps(heap: Global, source: &mut Source) -> Result<Vec<Step>, AllocError> {
-    let mut steps = Vec::new(heap);
-    for _ in 0..source.random.below(4) + 1 {
-        let width = any_width(source);
-        let price = any_price(&mut source.random, source.price);
-        steps.push(Step { width, price })?;
+    // Steps whose prices never fall.
+    fn rising_steps(&mut self) -> Result<Vec<Step>, AllocError> {
+        let mut level = self.random.below(3);
+        self.steps(|source| {
+            let price = level.saturating_mul(source.price);
+            level = level.saturating_add(source.random.below(3));
+            price
+        })
     }
-    Ok(steps)
-}
 
-// How many rows a group has: too few, or for the units that are added late too.
-fn row_count(source: &mut Source, units: u32) -> u32 {
-    match source.random.below(4) {
-        0 => source.random.below(units.saturating_add(1)),
-        1 => units.saturating_add(3),
-        _ => units.saturating_add(1),
+    // Steps whose prices may fall.
+    fn any_steps(&mut self) -> Result<Vec<Step>, AllocError> {
+        self.steps(Source::any_price)
     }
-}
 
-/// Draws the rows of a group of so many units.
-pub(crate) fn draw_rows<R: Drawn>(
-    heap: Global,
-    source: &mut Source,
-    units: u32,
-    rows: &mut Vec<R>,
-) -> Result<(), Failure> {
-    for _ in 0..row_count(source, units) {
-        rows.push(R::draw(heap, source)?)?;
+    // How many rows a group has: too few, or for the units that are added late too.
+    fn row_count(&mut self, units: u32) -> u32 {
+        match self.random.below(4) {
+            0 => self.random.below(units.saturating_add(1)),
+            1 => units.saturating_add(3),
+            _ => units.saturating_add(1),
+        }
     }
-    Ok(())
+
+    /// The rows of a group of so many units.
+    pub(crate) fn draw_rows<R: Drawn>(&mut self, units: u32) -> anyhow::Result<Vec<R>> {
+        let heap = self.heap;
+        let count = self.row_count(units);
+        (0..count).map(|_| R::draw(self)).try_collect(heap)
+    }
 }

@@ -1,23 +1,12 @@
-// Runs the calls of an hour on a book, in one of three ways.
+// Runs the calls of an hour on a book: all at once, each as a value, or each by the method of its name.
 use crate::calls::Answer;
-use crate::failures::Failure;
-use crate::text::{answer_line, answer_lines, listing, questions};
+use crate::report::Report;
 use book::{Book, Calls, ClosedHour, Entry, Header, OpenHour, PriceRow, Reading, run_settled};
 use curves::{Offer, SteppedCost, SteppedOffer};
 use std::alloc::{AllocError, Global};
 
-/// How the calls are made.
-#[derive(Clone, Copy)]
-pub enum Way {
-    /// By the call that makes a whole list of them.
-    AtOnce,
-    /// Each as a value.
-    OneByOne,
-    /// Each by the method of its name.
-    ByName,
-}
-
-/// The calls of an hour, and the rows that closing and settling take.
+/// The calls of an hour, the rows that closing and settling take, and the numbers that the settled hour is asked about.
+// Each list stands on its own: a call takes each as a slice.
 #[derive(Drop)]
 pub struct Plan<G, S> {
     pub header: Header,
@@ -27,9 +16,19 @@ pub struct Plan<G, S> {
     pub readings: Vec<Reading>,
     pub rows: Vec<PriceRow<SteppedOffer, SteppedCost>>,
     pub paid: Vec<S>,
+    pub asked: Vec<u32>,
 }
 
-fn enter_by_name(hour: &mut OpenHour, entry: Entry) -> Answer {
+/// The book that all hours of the cases are settled on, and what they answer.
+#[derive(Drop)]
+pub struct Cases {
+    pub heap: Global,
+    pub book: Book,
+    pub report: Report,
+}
+
+/// Makes an entry by the method of its name.
+pub(crate) fn enter_by_name(hour: &mut OpenHour, entry: Entry) -> Answer {
     match entry {
         Entry::AddPlant { loss } => hour.add_plant(loss),
         Entry::AddCompetitive {
@@ -60,7 +59,8 @@ fn enter_by_name(hour: &mut OpenHour, entry: Entry) -> Answer {
     }
 }
 
-fn read_by_name(hour: &mut ClosedHour, reading: Reading) -> Answer {
+/// Makes a reading by the method of its name.
+pub(crate) fn read_by_name(hour: &mut ClosedHour, reading: Reading) -> Answer {
     match reading {
         Reading::Competitive { unit, reading } => hour.read_competitive(unit, reading),
         Reading::Guaranteed { unit, reading } => hour.read_guaranteed(unit, reading),
@@ -68,116 +68,112 @@ fn read_by_name(hour: &mut ClosedHour, reading: Reading) -> Answer {
     }
 }
 
-/// Makes entries in turn, and writes down what they answer.
-pub(crate) fn enter_each(
-    text: &mut String,
-    hour: &mut OpenHour,
-    entries: &[Entry],
-    way: Way,
-) -> Result<(), AllocError> {
-    for entry in entries {
-        let answer = match way {
-            Way::ByName => enter_by_name(hour, *entry),
-            _ => hour.enter(*entry),
-        };
-        answer_line(text, answer)?;
-    }
-    Ok(())
-}
-
-/// Makes readings in turn, and writes down what they answer.
-pub(crate) fn read_each(
-    text: &mut String,
-    hour: &mut ClosedHour,
-    readings: &[Reading],
-    way: Way,
-) -> Result<(), AllocError> {
-    for reading in readings {
-        let answer = match way {
-            Way::ByName => read_by_name(hour, *reading),
-            _ => hour.read(*reading),
-        };
-        answer_line(text, answer)?;
-    }
-    Ok(())
-}
-
 impl<G: Offer + Drop, S: Offer + Drop> Plan<G, S> {
-    /// A plan without calls and rows.
-    pub(crate) fn new(heap: Global, header: Header) -> Plan<G, S> {
-        Plan {
-            header,
-            entries: Vec::new(heap),
-            offers: Vec::new(heap),
-            guaranteed: Vec::new(heap),
-            readings: Vec::new(heap),
-            rows: Vec::new(heap),
-            paid: Vec::new(heap),
+    /// Opens the hour and makes its entries in turn.
+    pub(crate) fn opened<'b, E: Fn(&mut OpenHour, Entry) -> Answer>(
+        &self,
+        book: &'b mut Book,
+        report: &mut Report,
+        enter: E,
+    ) -> Result<OpenHour<'b>, AllocError>
+        requires { E.IsAlwaysCallable enter }
+    {
+        let mut hour = book.open(self.header);
+        for entry in &self.entries {
+            report.outcome(enter(&mut hour, *entry))?;
         }
+        Ok(hour)
     }
 
-    /// Writes down what the calls answer, the listing of the settled hour, and what it answers about these numbers.
-    pub(crate) fn run(
+    /// Closes the hour and makes its readings in turn.
+    pub(crate) fn closed<'b, R: Fn(&mut ClosedHour, Reading) -> Answer>(
         &self,
-        heap: Global,
-        text: &mut String,
-        book: &mut Book,
-        way: Way,
-        numbers: &[u32],
-    ) -> Result<(), Failure> {
-        match way {
-            Way::AtOnce => self.run_at_once(heap, text, book, numbers),
-            _ => Ok(self.run_in_turn(text, book, way, numbers)?),
+        open: OpenHour<'b>,
+        report: &mut Report,
+        read: R,
+    ) -> Result<ClosedHour<'b>, AllocError>
+        requires { R.IsAlwaysCallable read }
+    {
+        let mut hour = open.close(self.offers.as_slice(), self.guaranteed.as_slice());
+        for reading in &self.readings {
+            report.outcome(read(&mut hour, *reading))?;
         }
+        Ok(hour)
     }
 
-    fn run_at_once(
-        &self,
-        heap: Global,
-        text: &mut String,
-        book: &mut Book,
-        numbers: &[u32],
-    ) -> Result<(), Failure> {
-        let calls = Calls {
+    fn calls(&self) -> Calls<'_, SteppedOffer, G> {
+        Calls {
             entries: self.entries.as_slice(),
             offers: self.offers.as_slice(),
             guaranteed: self.guaranteed.as_slice(),
             readings: self.readings.as_slice(),
-        };
-        let mut entered = vec![in heap; Ok(0); self.entries.len()]?;
-        let mut read = vec![in heap; Ok(0); self.readings.len()]?;
-        let hour = run_settled(
-            book,
-            self.header,
-            &calls,
-            entered.as_mut_slice(),
-            read.as_mut_slice(),
-            self.rows.as_slice(),
-            self.paid.as_slice(),
-        );
-        answer_lines(text, entered.as_slice())?;
-        answer_lines(text, read.as_slice())?;
-        listing(text, &hour)?;
-        questions(text, &hour, numbers)?;
-        hour.release();
-        Ok(())
+        }
+    }
+}
+
+impl Cases {
+    pub(crate) fn new(heap: Global) -> Cases {
+        Cases {
+            heap,
+            book: Book::new(),
+            report: Report::new(heap),
+        }
     }
 
-    fn run_in_turn(
-        &self,
-        text: &mut String,
-        book: &mut Book,
-        way: Way,
-        numbers: &[u32],
-    ) -> Result<(), AllocError> {
-        let mut open = book.open(self.header);
-        enter_each(text, &mut open, self.entries.as_slice(), way)?;
-        let mut closed = open.close(self.offers.as_slice(), self.guaranteed.as_slice());
-        read_each(text, &mut closed, self.readings.as_slice(), way)?;
-        let hour = closed.settle(self.rows.as_slice(), self.paid.as_slice());
-        listing(text, &hour)?;
-        questions(text, &hour, numbers)?;
-        hour.release();
-        Ok(())
+    /// Runs an hour by the call that makes a whole list of calls. Writes down what the calls answer, the listing of the
+    /// settled hour, and what it answers about the numbers asked.
+    pub(crate) fn run_at_once<G: Offer + Drop, S: Offer + Drop>(
+        &mut self,
+        plan: &Plan<G, S>,
+    ) -> anyhow::Result<()> {
+        let mut entered = vec![in self.heap; Ok(0); plan.entries.len()]?;
+        let mut read = vec![in self.heap; Ok(0); plan.readings.len()]?;
+        let hour = run_settled(
+            &mut self.book,
+            plan.header,
+            &plan.calls(),
+            entered.as_mut_slice(),
+            read.as_mut_slice(),
+            plan.rows.as_slice(),
+            plan.paid.as_slice(),
+        );
+        self.report.answers(entered.as_slice())?;
+        self.report.answers(read.as_slice())?;
+        Ok(self.report.settled(hour, plan.asked.as_slice())?)
+    }
+
+    /// Runs an hour with each call as a value, and writes down the same.
+    pub(crate) fn run_one_by_one<G: Offer + Drop, S: Offer + Drop>(
+        &mut self,
+        plan: &Plan<G, S>,
+    ) -> anyhow::Result<()> {
+        self.run_in_turn(
+            plan,
+            |hour, entry| hour.enter(entry),
+            |hour, reading| hour.read(reading),
+        )
+    }
+
+    /// Runs an hour with each call by the method of its name, and writes down the same.
+    pub(crate) fn run_by_name<G: Offer + Drop, S: Offer + Drop>(
+        &mut self,
+        plan: &Plan<G, S>,
+    ) -> anyhow::Result<()> {
+        self.run_in_turn(plan, enter_by_name, read_by_name)
+    }
+
+    fn run_in_turn<
+        G: Offer + Drop,
+        S: Offer + Drop,
+        E: Fn(&mut OpenHour, Entry) -> Answer,
+        R: Fn(&mut ClosedHour, Reading) -> Answer,
+    >(&mut self, plan: &Plan<G, S>, enter: E, read: R) -> anyhow::Result<()>
+        requires enters { E.IsAlwaysCallable enter }
+        requires reads { R.IsAlwaysCallable read }
+    {
+        let open = plan.opened(&mut self.book, &mut self.report, enter)?;
+        let closed = plan.closed(open, &mut self.report, read)?;
+        let hour = closed.settle(plan.rows.as_slice(), plan.paid.as_slice());
+        Ok(self.report.settled(hour, plan.asked.as_slice())?)
     }
 }

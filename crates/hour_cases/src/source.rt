@@ -1,7 +1,7 @@
 // Where the calls and the rows of a pseudo-random hour are drawn from.
-use crate::failures::Failure;
-use crate::random::Random;
-use book::Header;
+use book::{BookRefusal, Header};
+use comparing::Random;
+use std::alloc::Global;
 
 // How many plants or buyers an hour has.
 const SIZES: [u32; 16] = [0, 1, 1, 1, 1, 2, 2, 2, 2, 3, 3, 3, 3, 4, 4, 4];
@@ -9,6 +9,7 @@ const SIZES: [u32; 16] = [0, 1, 1, 1, 1, 2, 2, 2, 2, 3, 3, 3, 3, 4, 4, 4];
 /// The numbers that an hour's calls are drawn by.
 #[derive(Drop)]
 pub struct Source {
+    pub heap: Global,
     pub random: Random,
     /// Energies are below this.
     pub energy: u32,
@@ -28,7 +29,7 @@ pub struct Source {
 }
 
 impl Source {
-    pub(crate) fn new(number: u32) -> Source {
+    pub(crate) fn new(heap: Global, number: u32) -> Source {
         let mut random = Random::new(number as u64);
         let large = number % 13 == 0;
         let units = if large { 3 } else { 7 };
@@ -36,12 +37,13 @@ impl Source {
         let price = random.one_of(&[1, 100, 100, 1_250_000]);
         let gain = random.one_of(&[1, 60, 100_000_001]);
         let penalty = random.one_of(&[1, 1, 60, 100_000_001]);
-        let rate = any_price(&mut random, price);
+        let rate = any_multiple(&mut random, price);
         let plants = random.one_of(&SIZES);
         let buyers = random.one_of(&SIZES);
         let competitive = random.below(units);
         let guaranteed = random.below(units);
         Source {
+            heap,
             random,
             energy: if large { 2_000_001 } else { energy },
             price,
@@ -55,16 +57,21 @@ impl Source {
         }
     }
 
-    pub(crate) fn header(&mut self) -> Result<Header, Failure> {
+    pub(crate) fn header(&mut self) -> Result<Header, BookRefusal> {
         let ceiling = self.random.one_of(&[0, 300, 1_000, 10_000_000]);
         let coefficient = self.random.one_of(&[0, 9_000, 10_000, 50_000]);
         let base = self.random.one_of(&[0, 200, 777, 1_000_000]);
         let saving = self.random.one_of(&[0, 30, 45, 10_000_000]);
-        Ok(Header::new(ceiling, coefficient, base, saving, self.rate)?)
+        Header::new(ceiling, coefficient, base, saving, self.rate)
+    }
+
+    /// A price that steps and rates have.
+    pub(crate) fn any_price(&mut self) -> u32 {
+        any_multiple(&mut self.random, self.price)
     }
 }
 
-/// A price of up to 8 times this one.
-pub(crate) fn any_price(random: &mut Random, price: u32) -> u32 {
+// Up to 8 times this price.
+fn any_multiple(random: &mut Random, price: u32) -> u32 {
     random.below(9).saturating_mul(price)
 }

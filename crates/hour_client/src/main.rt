@@ -4,13 +4,10 @@
 mod sale;
 
 use book::{Book, Header};
-use std::io;
 
-fn main(rt: HostRuntime) -> io::Result<()> {
-    let mut book = Book::new();
-    let text = match Header::new(1_000, 10_000, 200, 0, 0) {
-        Ok(header) => sale::cost_text(rt.alloc(), &mut book, header)?,
-        Err(refusal) => sale::refused_text(rt.alloc(), refusal)?,
-    };
-    rt.print(text)
+fn main(rt: HostRuntime) -> anyhow::Result<()> {
+    let header = Header::new(1_000, 10_000, 200, 0, 0)?;
+    let cost = sale::support_cost(&mut Book::new(), header)?;
+    println!(rt; "cost {cost}")?;
+    Ok(())
 }

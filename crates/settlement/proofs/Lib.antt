@@ -1,3 +1,5 @@
+pub mod Bounds
 pub mod Quotients
+pub mod Rates
 pub mod Running
 pub mod Sums

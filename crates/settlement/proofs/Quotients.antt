@@ -1,5 +1,5 @@
 -- Bounds on quotients.
-use Rattle.std.proofs.Common.{◌≡◌, ℕ, ◌+◌, ◌*◌, ◌/◌, ◌≤◌, ap, ◌∙◌, mul_assoc, mul_comm, mul-le-mul, mul-le-mul_left, arith}
+use Rattle.std.proofs.Common.{◌≡◌, ℕ, ◌*◌, ◌/◌, ◌≤◌, ap, ◌∙◌, mul_assoc, mul_comm, mul-le-mul, mul-le-mul_left, arith}
 use native.Mathlib.Nat.{div-le_of_le-mul}
 
 -- a part of n is at most n
@@ -18,9 +18,3 @@ pub saved_le : (energy feeds saving : ℕ) → energy ≤ 2000000 → feeds ≤ 
 saved_le energy feeds saving le lf ls =
     let fed : energy * feeds ≤ 2000000 * 1 = mul-le-mul le lf in
     mul-le-mul fed ls
-
--- a use that fits 32 bits, with a fifth added at most
-pub weight_le : (used added : ℕ) → used ≤ 4294967295 → added ≤ 2000 → used * (10000 + added) / 10000 ≤ 5153960754
-weight_le used added lu la =
-    let most : 10000 + added ≤ 12000 = omega arith in
-    div-le_of_le-mul 10000 (omega (arith, mul-le-mul lu most))

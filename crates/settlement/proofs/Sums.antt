@@ -40,19 +40,28 @@ cost_difference price a b =
     omega (arith, between price a b, ap (cost_of price) at))
     (cases_lt b a)
 
+-- the cost of the first kWh lies between none and them
+pub from_start : (price : ℕ → ℕ) (b : ℕ) → cost_of price b ≡ cost_between price 0 b
+unfolding cost_of
+from_start price b = omega (arith, cost_difference price 0 b)
+
 -- nothing lies between a kWh and an earlier one
 pub between_none : (price : ℕ → ℕ) (a b : ℕ) → b ≤ a → cost_between price a b ≡ 0
 between_none price a b le =
     let at : min a b ≡ b = omega arith in
     omega (arith, between price a b, ap (cost_of price) at)
 
-pub between_bound : (price : ℕ → ℕ) → ((k : ℕ) → price k ≤ 10000000) → (a b : ℕ) → b ≤ 2000000 → cost_between price a b ≤ 20000000000000
+-- no cost is over 20,000,000,000,000
+pub cost_le : (price : ℕ → ℕ) → ((k : ℕ) → price k ≤ 10000000) → (n : ℕ) → n ≤ 2000000 → cost_of price n ≤ 20000000000000
 unfolding cost_of
-between_bound price each a b le = omega (arith, between price a b, by_kwh b)
+cost_le price each n le = omega (arith, by_kwh n)
   where
     by_kwh : (n : ℕ) → cost_of price n ≤ 10000000 * n
     by_kwh zero = omega arith
     by_kwh (suc n) = omega (arith, by_kwh n, each (suc n))
+
+pub between_bound : (price : ℕ → ℕ) → ((k : ℕ) → price k ≤ 10000000) → (a b : ℕ) → b ≤ 2000000 → cost_between price a b ≤ 20000000000000
+between_bound price each a b le = omega (arith, between price a b, cost_le price each b le)
 
 -- kWh of one price
 flat : (p n : ℕ) → cost_of (λ _. p) n ≡ p * n

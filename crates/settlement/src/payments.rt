@@ -18,8 +18,7 @@ pub struct PaidUnit {
 
 impl PaidUnit {
     fn billed(&self) -> u32
-        ensures value { result ≡ billed self.now }
-        ensures bound { result ≤ 2000000 }
+        ensures { result ≡ billed self.now }
     {
         bill(self.energies.net, self.loss)
     }
@@ -40,8 +39,7 @@ impl PaidUnit {
 
     // The kWh that are paid by the modified offer.
     fn first_part(&self) -> u32
-        ensures value { result ≡ first_part self.now }
-        ensures bound { result ≤ 2000000 }
+        ensures { result ≡ first_part self.now }
     {
         let wanted = at_reference(self.committed(), self.loss).max(self.allocated as u64);
         wanted.min(self.billed() as u64) as u32
@@ -49,8 +47,7 @@ impl PaidUnit {
 
     // The kWh up to which the lesser of cost curve and modified offer is paid.
     fn second_part(&self) -> u32
-        ensures value { result ≡ second_part self.now }
-        ensures bound { result ≤ 2000000 }
+        ensures { result ≡ second_part self.now }
     {
         let billed = self.billed();
         let offered = at_reference(self.offered(), self.loss).min(billed as u64) as u32;
@@ -62,29 +59,35 @@ impl PaidUnit {
     }
 }
 
-// The cost of kWh a + 1 to b.
-fn cost_between<C: Curve>(curve: &C, a: u32, b: u32) -> u64
-    ensures value { result ≡ cost_between (C.prices curve.now) (read_energy a) (read_energy b) }
-    ensures bound { result ≤ 20000000000000 }
-{
-    curve.cost(b).saturating_sub(curve.cost(a))
+// The kWh from `after` + 1 to `to`.
+#[derive(Clone, Copy)]
+struct Part {
+    after: u32,
+    to: u32,
 }
 
-// The lesser of the cost of kWh a + 1 to b by two curves.
-fn lesser_between<C: Curve, D: Curve>(one: &C, other: &D, a: u32, b: u32) -> u64
-    ensures value { result ≡ lesser (C.Curve.prices one.now) (D.Curve.prices other.now) (read_energy a) (read_energy b) }
-    ensures bound { result ≤ 20000000000000 }
-{
-    cost_between(one, a, b).min(cost_between(other, a, b))
-}
+impl Part {
+    // What they cost by a curve.
+    fn cost<C: Curve>(self, curve: &C) -> u64
+        ensures { result ≡ cost_between (C.prices curve.now) (read_energy self.after) (read_energy self.to) }
+    {
+        curve.cost(self.to).saturating_sub(curve.cost(self.after))
+    }
 
-// The cost of kWh a + 1 to b, each at the curve's price of one kWh.
-fn cost_at<C: Curve>(curve: &C, kwh: u32, a: u32, b: u32) -> u64
-    ensures value { result ≡ cost_between (λ _. C.prices curve.now (read_kwh kwh)) (read_energy a) (read_energy b) }
-    ensures bound { result ≤ 20000000000000 }
-{
-    let count = b.min(MAX_KWH).saturating_sub(a.min(MAX_KWH));
-    curve.price(kwh) as u64 * count as u64
+    // The lesser of what they cost by two curves.
+    fn lesser_cost<C: Curve, D: Curve>(self, one: &C, other: &D) -> u64
+        ensures { result ≡ lesser (C.Curve.prices one.now) (D.Curve.prices other.now) (read_energy self.after) (read_energy self.to) }
+    {
+        self.cost(one).min(self.cost(other))
+    }
+
+    // What they cost, each at the curve's price of one kWh.
+    fn cost_at<C: Curve>(self, curve: &C, kwh: u32) -> u64
+        ensures { result ≡ cost_between (λ _. C.prices curve.now (read_kwh kwh)) (read_energy self.after) (read_energy self.to) }
+    {
+        let count = self.to.min(MAX_KWH).saturating_sub(self.after.min(MAX_KWH));
+        curve.price(kwh) as u64 * count as u64
+    }
 }
 
 /// What a competitive unit is paid, by its offer and its cost curve.
@@ -103,18 +106,24 @@ pub fn competitive_payment<O: Curve, C: Curve>(
     };
     let first = unit.first_part();
     let second = unit.second_part();
-    let billed = unit.billed();
-    let paid_a = cost_between(&modified, 0, first);
-    let paid_b = lesser_between(cost, &modified, first, second);
+    let by_lesser = Part {
+        after: first,
+        to: second,
+    };
+    let rest = Part {
+        after: first.max(second),
+        to: unit.billed(),
+    };
+    let paid_a = modified.cost(first);
+    let paid_b = by_lesser.lesser_cost(cost, &modified);
     let paid_c = if paid_a == 0 {
-        let raised = Raised {
+        rest.cost(&Raised {
             ceiling,
             below: cost,
-        };
-        cost_between(&raised, first.max(second), billed)
+        })
     } else {
         let kwh = unit.committed().min(MAX_KWH as u64) as u32;
-        cost_at(&modified, kwh, first.max(second), billed)
+        rest.cost_at(&modified, kwh)
     };
     paid_a + paid_b + paid_c
 }
@@ -125,6 +134,7 @@ pub fn guaranteed_payment<O: Curve>(offer: &O, billed: u32, feeds: u32, saving: 
     ensures value { result ≡ guaranteed_payment billed (O.prices offer.now) feeds saving }
     ensures bound { result ≤ 8609934590000000 }
 {
+    // `feeds` is a number, since callers give any, and each has a meaning.
     let saved = billed.min(MAX_KWH) as u64 * feeds.min(1) as u64 * saving as u64;
-    cost_between(offer, 0, billed) + saved
+    offer.cost(billed) + saved
 }

@@ -4,11 +4,17 @@ ghost use Rattle.settlement.specs.Reference.{kept, at_reference, net_of, bill_of
 
 use curves::MAX_KWH;
 
-// What is left of 10,000 parts after a loss in hundredths of a percent.
+// The parts of a whole, since losses and internal consumption are in hundredths of a percent.
+pub(crate) const WHOLE_PARTS: u64 = 10_000;
+
+// The most parts that a loss or internal consumption takes.
+pub(crate) const MAX_LOSS: u32 = 2_000;
+
+// What is left of the parts after a loss.
 pub(crate) fn parts_kept(loss: u32) -> u64
     ensures { result ≡ kept loss }
 {
-    10_000 - loss.min(2_000) as u64
+    WHOLE_PARTS - loss.min(MAX_LOSS) as u64
 }
 
 // Energy at the reference point.
@@ -16,7 +22,7 @@ pub(crate) fn at_reference(energy: u64, loss: u32) -> u64
     ensures value { result ≡ at_reference loss energy }
     ensures bound { result ≤ energy }
 {
-    (energy as u128 * parts_kept(loss) as u128 / 10_000) as u64
+    (energy as u128 * parts_kept(loss) as u128 / WHOLE_PARTS as u128) as u64
 }
 
 /// A unit's limit: its gross energy less internal consumption, at the reference point.
@@ -24,7 +30,7 @@ pub fn limit(gross: u32, internal: u32, loss: u32) -> u32
     ensures value { result ≡ net_of internal loss gross }
     ensures bound { result ≤ gross }
 {
-    (gross as u64 * parts_kept(internal) * parts_kept(loss) / 100_000_000) as u32
+    (gross as u64 * parts_kept(internal) * parts_kept(loss) / (WHOLE_PARTS * WHOLE_PARTS)) as u32
 }
 
 /// A unit's billed energy: its net energy at the reference point.

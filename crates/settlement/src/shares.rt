@@ -2,6 +2,8 @@
 ghost use Rattle.std.specs.Prelude.{◌≡◌, ◌≤◌};
 ghost use Rattle.settlement.specs.Shares.{running_share, group_one_share, weight_of};
 
+use crate::reference::{MAX_LOSS, WHOLE_PARTS};
+
 /// What falls to `part` of `total`; nothing where the total is 0.
 pub fn running_share(whole: u64, part: u64, total: u64) -> u128
     ensures { result ≡ running_share whole part total }
@@ -29,5 +31,5 @@ pub fn weight(used: u32, loss: u32) -> u64
     ensures value { result ≡ weight_of loss used }
     ensures bound { result ≤ 5153960754 }
 {
-    used as u64 * (10_000 + loss.min(2_000) as u64) / 10_000
+    used as u64 * (WHOLE_PARTS + loss.min(MAX_LOSS) as u64) / WHOLE_PARTS
 }

@@ -5,7 +5,7 @@ ghost use Rattle.settlement.specs.Support.{marked, active_of, day_support, quoti
 use crate::readings::Control;
 use crate::reference::{at_reference, parts_kept};
 
-/// The highest rate.
+// The highest rate.
 const MAX_RATE: u64 = 1_000_000_000;
 
 impl Control {
@@ -13,7 +13,11 @@ impl Control {
     fn marked(&self) -> bool
         ensures { result ≡ marked self.now.day self.now.minute }
     {
-        self.day == 1 || self.day == 2 && self.minute > 780
+        match self.day {
+            1 => true,
+            2 => self.minute > 780,
+            _ => false,
+        }
     }
 
     /// The unit's active energy: as the operator reports it, with the deviations that count.
@@ -26,8 +30,8 @@ impl Control {
             + self.type3 as u64
             + self.type5 as u64
             + self.type8 as u64;
-        let marked = if self.marked() { 0 } else { self.type6 as u64 };
-        always + marked
+        let type6 = if self.marked() { 0 } else { self.type6 as u64 };
+        always + type6
     }
 }
 
@@ -43,17 +47,8 @@ pub fn day_support(allocated: u32, active: u64, loss: u32) -> u32
 fn quotient(money: u64, energy: i64) -> Option<u64>
     ensures { result ≡ quotient money energy }
 {
-    if energy <= 0 {
-        return None;
-    }
-    Some(money / energy as u64)
-}
-
-// A sum of money, 0 if it is negative.
-fn money(sum: i64) -> u64
-    ensures { result ≡ read_money sum }
-{
-    if sum < 0 { 0 } else { sum as u64 }
+    let energy = u64::try_from(energy).ok()?;
+    money.checked_div(energy)
 }
 
 /// A plant's rate: the greater of its payments by its energy over its allocation, and the hour's money by the hour's
@@ -61,15 +56,10 @@ fn money(sum: i64) -> u64
 pub fn rate(payments: u64, over: i64, hour_money: i64, hour_over: i64, ceiling: u32) -> u32
     ensures { result ≡ rate_of payments over hour_money hour_over ceiling }
 {
-    match (
-        quotient(payments, over),
-        quotient(money(hour_money), hour_over),
-    ) {
-        (None, None) => ceiling,
-        (None, Some(q)) => q.min(MAX_RATE) as u32,
-        (Some(p), None) => p.min(MAX_RATE) as u32,
-        (Some(p), Some(q)) => p.max(q).min(MAX_RATE) as u32,
-    }
+    let own = quotient(payments, over);
+    let hour = quotient(u64::try_from(hour_money).unwrap_or(0), hour_over);
+    own.max(hour)
+        .map_or(ceiling, |quotient| quotient.min(MAX_RATE) as u32)
 }
 
 /// What a plant's support costs, in thousandths of a rial.

@@ -1,17 +1,17 @@
 -- The ledger of a table that stands for a history is the one that the history gives.
-use Rattle.std.proofs.Common.{◌≡◌, ℕ, ◌+◌, ◌-◌, ◌<◌, ◌≤◌, min, List, get_or, take, None, Option, sym, refl, ap, ◌∙◌, arith}
+use Rattle.std.proofs.Common.{◌≡◌, ℕ, ◌+◌, ◌-◌, ◌<◌, ◌≤◌, min, List, take, Option, sym, refl, ap, ◌∙◌, arith}
 use Rattle.table.proofs.Accepted.{units_placed}
 use Rattle.table.specs.Closing.{unit_at, plant_at}
 use Rattle.table.specs.ClosingLaw.{ClosingLaw}
 use Rattle.table.specs.History.{plants_in, loss_in, units_in, unit_in, Proper, UnitsStand, PlantsStand, Stands}
 use Rattle.table.specs.Metered.{Metered, last_competitive, last_guaranteed}
+use Rattle.table.specs.Rows.{UnitTable}
 use Rattle.table.specs.declared.entries.Entry.{Entry}
 use Rattle.table.specs.declared.readings.Reading.{Reading}
 use Rattle.table.specs.declared.records.Plant.{Plant}
 use Rattle.table.specs.declared.records.Table.{Table}
 use Rattle.table.specs.declared.records.UnitReading.{UnitReading}
 use Rattle.table.specs.declared.records.UnitRecord.{UnitRecord}
-use Rattle.table.specs.declared.records.UnitTable.{UnitTable}
 use Rattle.settling.proofs.Agree.{Agree}
 use Rattle.settling.specs.Derived.{ledger_in, found_in}
 use Rattle.settling.specs.Ledger.{UnitCase, PlantCase, BuyerCase, ledger_of, loss_at, case_at}
@@ -48,7 +48,7 @@ loss_stands h count plants s p low high =
 
 module _ (g : ℕ) (h : List Entry) (ok : Proper h) (t : UnitTable) (s : UnitsStand g h t) (count : ℕ) (plants : List Plant) (p : PlantsStand h count plants) where
   -- a unit's row by the history
-  case_stands : (reading : Option UnitReading) (i : ℕ) → i < units_in g h → get_or t.readings i None ≡ reading → case_at plants t i ≡ record { plant = (unit_in g (i + 1) h).plant; loss = loss_in (unit_in g (i + 1) h).plant h; internal = (unit_in g (i + 1) h).internal; feeds = (unit_in g (i + 1) h).feeds; allocated = (unit_at t i).figures.allocated; reading = reading }
+  case_stands : (reading : Option UnitReading) (i : ℕ) → i < units_in g h → (unit_at t i).reading ≡ reading → case_at plants t i ≡ record { plant = (unit_in g (i + 1) h).plant; loss = loss_in (unit_in g (i + 1) h).plant h; internal = (unit_in g (i + 1) h).internal; feeds = (unit_in g (i + 1) h).feeds; allocated = (unit_at t i).figures.allocated; reading = reading }
   case_stands reading i lt read =
       let terms = s.rows i lt in
       let own : (unit_at t i).plant ≡ (unit_in g (i + 1) h).plant = ap (λ (u : UnitRecord). u.plant) terms in
@@ -69,18 +69,18 @@ module _ {O P : Type 0} (prices1 : O → ℕ → ℕ) (offers1 : List O) (prices
 
   pub ledger_stands : Agree (ledger_of t) (ledger_in (found_in t) h rs)
   ledger_stands =
-      let plants : min t.plant_count 32 ≡ plants_in h = omega (arith, s.plants.counted, s.plants.room) in
+      let plants : min t.plants.count 32 ≡ plants_in h = omega (arith, s.plants.counted, s.plants.room) in
       let units1 : min t.competitive.count 128 ≡ units_in 1 h = omega (arith, s.competitive.count, s.competitive.room) in
       let units2 : min t.guaranteed.count 128 ≡ units_in 2 h = omega (arith, s.guaranteed.count, s.guaranteed.room) in
-      let whole : min t.commitment_count 768 ≡ t.commitment_count = omega (arith, s.commitments.counted, s.commitments.room) in
+      let whole : min t.commitments.count 768 ≡ t.commitments.count = omega (arith, s.commitments.counted, s.commitments.room) in
       record {
         plants = plants;
         plant = λ i lt. plant_stands i (omega arith);
         units1 = units1;
         units2 = units2;
-        unit1 = λ i lt. case_stands 1 h ok t.competitive s.competitive t.plant_count t.plants s.plants (last_competitive (i + 1) rs) i (omega arith) (m.competitive i (omega (arith, s.competitive.room)));
-        unit2 = λ i lt. case_stands 2 h ok t.guaranteed s.guaranteed t.plant_count t.plants s.plants (last_guaranteed (i + 1) rs) i (omega arith) (m.guaranteed i (omega (arith, s.guaranteed.room)));
+        unit1 = λ i lt. case_stands 1 h ok t.competitive s.competitive t.plants.count t.plants.rows s.plants (last_competitive (i + 1) rs) i (omega arith) (m.competitive i (omega (arith, s.competitive.room)));
+        unit2 = λ i lt. case_stands 2 h ok t.guaranteed s.guaranteed t.plants.count t.plants.rows s.plants (last_guaranteed (i + 1) rs) i (omega arith) (m.guaranteed i (omega (arith, s.guaranteed.room)));
         buyers = omega (arith, s.buyers.counted, s.buyers.room);
         buyer = λ i lt. buyer_same ((ledger_of t).buyer i) ((ledger_in (found_in t) h rs).buyer i) (s.buyers.rows i (omega (arith, s.buyers.counted))) (m.uses i (omega arith));
-        commitments = ap (λ n. take n t.commitments) whole ∙ s.commitments.rows;
+        commitments = ap (λ n. take n t.commitments.rows) whole ∙ s.commitments.rows;
       }

@@ -5,3 +5,5 @@ pub mod Wholes
 pub mod Nets
 pub mod Agree
 pub mod Ledgers
+pub mod Volumes
+pub mod Folded

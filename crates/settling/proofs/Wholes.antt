@@ -1,10 +1,10 @@
 -- Settling the units and then the rest settles the table.
-use Rattle.std.proofs.Common.{◌≡◌, ℕ, ◌+◌, ◌*◌, min, get_or, ℤ, pos, ◌-ℤ◌, Some, None, Option, sym, refl, ap, ◌∙◌, subst}
+use Rattle.std.proofs.Common.{◌≡◌, ℕ, ◌+◌, ◌*◌, min, ℤ, pos, ◌-ℤ◌, Some, None, Option, sym, refl, ap, ◌∙◌, subst}
 use Rattle.allocation.specs.Groups.{sum_of}
 use Rattle.table.specs.Closing.{unit_at, plant_at}
+use Rattle.table.specs.Rows.{UnitTable}
 use Rattle.table.specs.declared.records.Plant.{Plant}
 use Rattle.table.specs.declared.records.Table.{Table}
-use Rattle.table.specs.declared.records.UnitTable.{UnitTable}
 use Rattle.settling.specs.Figures.{Pay, sum_units, of_plant, billed_unit, active_unit, opportunity_unit, penalty_unit, hour_money, hour_over, volumes, bought_by}
 use Rattle.settling.specs.Ledger.{UnitCase, Ledger, ledger_of}
 use Rattle.settling.specs.Settled.{GroupSettled, Settled, with_rows, settled_plant, settled_buyer, buyer_at}
@@ -20,23 +20,23 @@ figures_same header money over p x billed paid active eb ep ea =
     let by = λ (b d a : ℕ). figures_by header money over p (record { billed = b; paid = d; active = a; opportunity = 0; penalties = 0 }) in
     ap (λ b. by b x.paid x.active) eb ∙ ap (λ d. by billed d x.active) ep ∙ ap (by billed paid) ea
 
-module _ (header : Header) (pay : Pay) (t : Table) (one two : UnitTable) (settled1 : GroupSettled (pay 1) t.plants t.competitive one) (settled2 : GroupSettled (pay 2) t.plants t.guaranteed two) where
+module _ (header : Header) (pay : Pay) (t : Table) (one two : UnitTable) (settled1 : GroupSettled (pay 1) t.plants.rows t.competitive one) (settled2 : GroupSettled (pay 2) t.plants.rows t.guaranteed two) where
   abbrev book : Ledger
   book = ledger_of t
 
   module _ (F : Totals → ℕ) (none : F no_totals ≡ 0) (f : ℕ → ℕ → UnitCase → ℕ) (same : (g i : ℕ) (u : UnitCase) → F (case_totals (pay g i u) u) ≡ f g i u) where
     abbrev counts : Option ℕ → UnitTable → ℕ
-    counts plant x = sum_of (min x.count 128) (λ i. F (counted_totals plant (unit_at x i) (get_or x.readings i None)))
+    counts plant x = sum_of (min x.count 128) (λ i. F (counted_totals plant (unit_at x i)))
 
     plant_sum : (p : ℕ) → counts (Some p) one + counts (Some p) two ≡ sum_units book (of_plant p f)
     plant_sum p =
-        ap (λ x. x + counts (Some p) two) (sum_of_plant (pay 1) t.plants t.competitive one settled1 F none (f 1) (same 1) p)
-        ∙ ap (λ y. sum_of (min t.competitive.count 128) (λ i. of_plant p f 1 i (book.unit 1 i)) + y) (sum_of_plant (pay 2) t.plants t.guaranteed two settled2 F none (f 2) (same 2) p)
+        ap (λ x. x + counts (Some p) two) (sum_of_plant (pay 1) t.plants.rows t.competitive one settled1 F none (f 1) (same 1) p)
+        ∙ ap (λ y. sum_of (min t.competitive.count 128) (λ i. of_plant p f 1 i (book.unit 1 i)) + y) (sum_of_plant (pay 2) t.plants.rows t.guaranteed two settled2 F none (f 2) (same 2) p)
 
     all_sum : counts None one + counts None two ≡ sum_units book f
     all_sum =
-        ap (λ x. x + counts None two) (sum_of_all (pay 1) t.plants t.competitive one settled1 F none (f 1) (same 1))
-        ∙ ap (λ y. sum_of (min t.competitive.count 128) (λ i. f 1 i (book.unit 1 i)) + y) (sum_of_all (pay 2) t.plants t.guaranteed two settled2 F none (f 2) (same 2))
+        ap (λ x. x + counts None two) (sum_of_all (pay 1) t.plants.rows t.competitive one settled1 F none (f 1) (same 1))
+        ∙ ap (λ y. sum_of (min t.competitive.count 128) (λ i. f 1 i (book.unit 1 i)) + y) (sum_of_all (pay 2) t.plants.rows t.guaranteed two settled2 F none (f 2) (same 2))
 
   billed_of : (p : ℕ) → (both_totals (Some p) one two).billed ≡ sum_units book (of_plant p billed_unit)
   billed_of p = plant_sum (λ x. x.billed) refl billed_unit (λ g i u. refl) p
@@ -62,15 +62,15 @@ module _ (header : Header) (pay : Pay) (t : Table) (one two : UnitTable) (settle
   over_same = ap (λ b. pos b -ℤ pos (volumes (sold_of t))) all_billed
 
   abbrev mid : Table
-  mid = with_rows t.plants one two t.buyers t.figures t
+  mid = with_rows t.plants.rows one two t.buyers.rows t.figures t
 
   pub settled_whole : (after : Table) → RestSettled header mid after → Settled header pay t after
   settled_whole after r =
       let by = λ (m o : ℤ) (i : ℕ). settled_plant (figures_by header m o (plant_at t i) (both_totals (Some (i + 1)) one two)) (plant_at t i) in
-      let buyer = λ (b : ℕ) (i : ℕ). settled_buyer (buyer_figures_by b (weights_of i t.buyers) (weights_of (i + 1) t.buyers) (weights_of (min t.buyer_count 64) t.buyers) (bought_by (i + 1) (sold_of t))) (buyer_at t i) in
+      let buyer = λ (b : ℕ) (i : ℕ). settled_buyer (buyer_figures_by b (weights_of i t.buyers.rows) (weights_of (i + 1) t.buyers.rows) (weights_of (min t.buyers.count 64) t.buyers.rows) (bought_by (i + 1) (sold_of t))) (buyer_at t i) in
       record {
-        competitive = subst (GroupSettled (pay 1) t.plants t.competitive) (sym (ap (λ (x : Table). x.competitive) r.rest)) settled1;
-        guaranteed = subst (GroupSettled (pay 2) t.plants t.guaranteed) (sym (ap (λ (x : Table). x.guaranteed) r.rest)) settled2;
+        competitive = subst (GroupSettled (pay 1) t.plants.rows t.competitive) (sym (ap (λ (x : Table). x.competitive) r.rest)) settled1;
+        guaranteed = subst (GroupSettled (pay 2) t.plants.rows t.guaranteed) (sym (ap (λ (x : Table). x.guaranteed) r.rest)) settled2;
         plants = λ i lt. r.plants i lt
             ∙ ap (λ m. by m (pos (both_totals None one two).billed -ℤ pos (volumes (sold_of t))) i) money_same
             ∙ ap (λ o. by (hour_money pay book) o i) over_same
@@ -78,7 +78,7 @@ module _ (header : Header) (pay : Pay) (t : Table) (one two : UnitTable) (settle
         plants_later = r.plants_later;
         buyers = λ i lt. r.buyers i lt ∙ ap (λ b. buyer b i) all_billed;
         buyers_later = r.buyers_later;
-        hour = r.hour ∙ ap (λ b. hour_by b (volumes (sold_of t)) (weights_of (min t.buyer_count 64) t.buyers)) all_billed;
-        rest = r.rest ∙ ap (λ x. with_rows after.plants x two after.buyers after.figures t) (sym (ap (λ (x : Table). x.competitive) r.rest))
-            ∙ ap (λ y. with_rows after.plants after.competitive y after.buyers after.figures t) (sym (ap (λ (x : Table). x.guaranteed) r.rest));
+        hour = r.hour ∙ ap (λ b. hour_by b (volumes (sold_of t)) (weights_of (min t.buyers.count 64) t.buyers.rows)) all_billed;
+        rest = r.rest ∙ ap (λ x. with_rows after.plants.rows x two after.buyers.rows after.figures t) (sym (ap (λ (x : Table). x.competitive) r.rest))
+            ∙ ap (λ y. with_rows after.plants.rows after.competitive y after.buyers.rows after.figures t) (sym (ap (λ (x : Table). x.guaranteed) r.rest));
       }

@@ -3,7 +3,7 @@ use Rattle.std.specs.Prelude.{ℕ, ◌-◌, min, cond, List, get_or, take, Some,
 use Rattle.settlement.specs.declared.readings.CompetitiveEnergies.{CompetitiveEnergies}
 use Rattle.settlement.specs.declared.readings.Control.{Control}
 use Rattle.table.specs.Closing.{unit_at, plant_at}
-use Rattle.table.specs.Rows.{new_plant, new_buyer}
+use Rattle.table.specs.Rows.{UnitTable, new_plant, new_buyer}
 use Rattle.table.specs.declared.records.Adjustments.{Adjustments}
 use Rattle.table.specs.declared.records.Buyer.{Buyer}
 use Rattle.table.specs.declared.records.Commitment.{Commitment}
@@ -11,7 +11,6 @@ use Rattle.table.specs.declared.records.Plant.{Plant}
 use Rattle.table.specs.declared.records.Table.{Table}
 use Rattle.table.specs.declared.records.UnitReading.{UnitReading}
 use Rattle.table.specs.declared.records.UnitRecord.{UnitRecord}
-use Rattle.table.specs.declared.records.UnitTable.{UnitTable}
 
 -- a unit with what is known of it: its plant and that plant's loss, what was entered and allocated, and its reading
 pub record UnitCase : Type 0 where
@@ -60,19 +59,19 @@ control_of (Some r) = r.control
 abbrev pub loss_at : List Plant → ℕ → ℕ
 loss_at plants number = (get_or plants (number - 1) (new_plant 0)).loss
 
-abbrev pub case_of : ℕ → UnitRecord → Option UnitReading → UnitCase
-case_of loss u r = record {
+abbrev pub case_of : ℕ → UnitRecord → UnitCase
+case_of loss u = record {
   plant = u.plant;
   loss = loss;
   internal = u.internal;
   feeds = u.feeds;
   allocated = u.figures.allocated;
-  reading = r;
+  reading = u.reading;
 }
 
 -- the unit at a place of a group's table
 abbrev pub case_at : List Plant → UnitTable → ℕ → UnitCase
-case_at plants t i = case_of (loss_at plants (unit_at t i).plant) (unit_at t i) (slice_index_or t.readings i None)
+case_at plants t i = case_of (loss_at plants (unit_at t i).plant) (unit_at t i)
 
 abbrev pub plant_case : Plant → PlantCase
 plant_case p = record {
@@ -91,11 +90,11 @@ table_of g t = cond (g == 1) t.competitive t.guaranteed
 -- a table's ledger; a count past the table's room is read as its room
 abbrev pub ledger_of : Table → Ledger
 ledger_of t = record {
-  plants = min t.plant_count 32;
+  plants = min t.plants.count 32;
   plant = λ i. plant_case (plant_at t i);
   units = λ g. min (table_of g t).count 128;
-  unit = λ g i. case_at t.plants (table_of g t) i;
-  buyers = min t.buyer_count 64;
-  buyer = λ i. buyer_case (slice_index_or t.buyers i (new_buyer 0));
-  commitments = take (min t.commitment_count 768) t.commitments;
+  unit = λ g i. case_at t.plants.rows (table_of g t) i;
+  buyers = min t.buyers.count 64;
+  buyer = λ i. buyer_case (slice_index_or t.buyers.rows i (new_buyer 0));
+  commitments = take (min t.commitments.count 768) t.commitments.rows;
 }

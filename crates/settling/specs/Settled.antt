@@ -1,8 +1,7 @@
 -- What settling leaves in the table.
-use Rattle.std.specs.Prelude.{◌≡◌, ℕ, ◌<◌, ◌≤◌, min, List, Option, slice_index_or}
-use Rattle.settlement.specs.declared.payments.PaidUnit.{PaidUnit}
+use Rattle.std.specs.Prelude.{◌≡◌, ℕ, ◌<◌, ◌≤◌, min, List, slice_index_or}
 use Rattle.table.specs.Closing.{unit_at, plant_at, SameUnits}
-use Rattle.table.specs.Rows.{new_buyer}
+use Rattle.table.specs.Rows.{UnitTable, new_buyer}
 use Rattle.table.specs.declared.records.Buyer.{Buyer}
 use Rattle.table.specs.declared.records.BuyerFigures.{BuyerFigures}
 use Rattle.table.specs.declared.records.HourFigures.{HourFigures}
@@ -10,23 +9,18 @@ use Rattle.table.specs.declared.records.Plant.{Plant}
 use Rattle.table.specs.declared.records.PlantFigures.{PlantFigures}
 use Rattle.table.specs.declared.records.Table.{Table}
 use Rattle.table.specs.declared.records.UnitFigures.{UnitFigures}
-use Rattle.table.specs.declared.records.UnitReading.{UnitReading}
 use Rattle.table.specs.declared.records.UnitRecord.{UnitRecord}
-use Rattle.table.specs.declared.records.UnitTable.{UnitTable}
 use Rattle.settling.specs.Figures.{Pay, unit_figures, plant_figures, buyer_figures, hour_figures}
-use Rattle.settling.specs.Ledger.{UnitCase, ledger_of, case_at, energies_of}
+use Rattle.settling.specs.Ledger.{UnitCase, ledger_of, case_of, case_at}
 use Rattle.settling.specs.declared.header.Header.{Header}
 
 -- the rows of a table with other figures, and all else as it was
 abbrev pub with_rows : List Plant → UnitTable → UnitTable → List Buyer → HourFigures → Table → Table
 with_rows plants competitive guaranteed buyers figures t = record {
-  plant_count = t.plant_count;
-  plants = plants;
+  plants = record { count = t.plants.count; rows = plants };
   competitive = competitive;
   guaranteed = guaranteed;
-  buyer_count = t.buyer_count;
-  buyers = buyers;
-  commitment_count = t.commitment_count;
+  buyers = record { count = t.buyers.count; rows = buyers };
   commitments = t.commitments;
   figures = figures;
 }
@@ -40,25 +34,13 @@ with_figures figures u = record {
   internal = u.internal;
   feeds = u.feeds;
   aside = u.aside;
+  reading = u.reading;
   figures = figures;
 }
 
-abbrev pub billed_to : ℕ → UnitRecord → UnitRecord
-billed_to billed u =
-    with_figures (record { allocated = u.figures.allocated; billed = billed; payment = u.figures.payment }) u
-
-abbrev pub paid_to : ℕ → UnitRecord → UnitRecord
-paid_to payment u =
-    with_figures (record { allocated = u.figures.allocated; billed = u.figures.billed; payment = payment }) u
-
--- a competitive unit's payment looks at its record, its plant's loss and its reading
-abbrev pub paid_of : ℕ → UnitRecord → Option UnitReading → PaidUnit
-paid_of loss u r = record {
-  loss = loss;
-  internal = u.internal;
-  allocated = u.figures.allocated;
-  energies = energies_of r;
-}
+-- a unit that is billed and paid, by its plant's loss
+abbrev pub settled_unit : (UnitCase → ℕ) → ℕ → UnitRecord → UnitRecord
+settled_unit pay loss u = with_figures (unit_figures (pay (case_of loss u)) (case_of loss u)) u
 
 abbrev pub settled_plant : PlantFigures → Plant → Plant
 settled_plant figures p = record { loss = p.loss; figures = figures }
@@ -67,7 +49,7 @@ abbrev pub settled_buyer : BuyerFigures → Buyer → Buyer
 settled_buyer figures b = record { loss = b.loss; used = b.used; figures = figures }
 
 abbrev pub buyer_at : Table → ℕ → Buyer
-buyer_at t i = slice_index_or t.buyers i (new_buyer 0)
+buyer_at t i = slice_index_or t.buyers.rows i (new_buyer 0)
 
 -- A group's units have their figures. Those that are not entered, and what was entered and read, are as they were.
 pub record GroupSettled (pay : ℕ → UnitCase → ℕ) (plants : List Plant) (before after : UnitTable) : Type 0 where
@@ -77,11 +59,11 @@ pub record GroupSettled (pay : ℕ → UnitCase → ℕ) (plants : List Plant) (
 
 -- Settling: every figure by the header, the ledger and the price rows. Nothing else changes.
 pub record Settled (header : Header) (pay : Pay) (before after : Table) : Type 0 where
-  pub competitive : GroupSettled (pay 1) before.plants before.competitive after.competitive
-  pub guaranteed : GroupSettled (pay 2) before.plants before.guaranteed after.guaranteed
+  pub competitive : GroupSettled (pay 1) before.plants.rows before.competitive after.competitive
+  pub guaranteed : GroupSettled (pay 2) before.plants.rows before.guaranteed after.guaranteed
   pub plants : (i : ℕ) → i < (ledger_of before).plants → plant_at after i ≡ settled_plant (plant_figures header pay (ledger_of before) i) (plant_at before i)
   pub plants_later : (i : ℕ) → (ledger_of before).plants ≤ i → plant_at after i ≡ plant_at before i
   pub buyers : (i : ℕ) → i < (ledger_of before).buyers → buyer_at after i ≡ settled_buyer (buyer_figures (ledger_of before) i) (buyer_at before i)
   pub buyers_later : (i : ℕ) → (ledger_of before).buyers ≤ i → buyer_at after i ≡ buyer_at before i
   pub hour : after.figures ≡ hour_figures (ledger_of before)
-  pub rest : after ≡ with_rows after.plants after.competitive after.guaranteed after.buyers after.figures before
+  pub rest : after ≡ with_rows after.plants.rows after.competitive after.guaranteed after.buyers.rows after.figures before

@@ -5,7 +5,7 @@ use Rattle.allocation.specs.Groups.{sum_of}
 use Rattle.settlement.specs.Shares.{running_share, weight_of}
 use Rattle.settlement.specs.Support.{day_support, rate_of, support_cost}
 use Rattle.table.specs.Closing.{unit_at, plant_at}
-use Rattle.table.specs.Rows.{new_buyer}
+use Rattle.table.specs.Rows.{UnitTable, new_buyer}
 use Rattle.table.specs.declared.records.Buyer.{Buyer}
 use Rattle.table.specs.declared.records.BuyerFigures.{BuyerFigures}
 use Rattle.table.specs.declared.records.Commitment.{Commitment}
@@ -13,23 +13,22 @@ use Rattle.table.specs.declared.records.HourFigures.{HourFigures}
 use Rattle.table.specs.declared.records.Plant.{Plant}
 use Rattle.table.specs.declared.records.PlantFigures.{PlantFigures}
 use Rattle.table.specs.declared.records.Table.{Table}
-use Rattle.table.specs.declared.records.UnitTable.{UnitTable}
 use Rattle.settling.specs.Figures.{volumes, bought_by}
 use Rattle.settling.specs.Settled.{with_rows, settled_plant, settled_buyer, buyer_at}
-use Rattle.settling.specs.Totals.{plus_totals, sum_totals}
+use Rattle.settling.specs.Totals.{PaymentFits, plus_totals, sum_totals}
 use Rattle.settling.specs.declared.header.Header.{Header}
 use Rattle.settling.specs.declared.totals.Totals.{Totals}
 
 -- what the units of both groups come to, of one plant or of all
 abbrev pub group_totals : Option ℕ → UnitTable → Totals
-group_totals plant t = sum_totals plant t.units t.readings (min t.count 128)
+group_totals plant t = sum_totals plant t.rows (min t.count 128)
 
 abbrev pub both_totals : Option ℕ → UnitTable → UnitTable → Totals
 both_totals plant competitive guaranteed = plus_totals (group_totals plant competitive) (group_totals plant guaranteed)
 
--- each unit of a group is paid so much that sums fit
+-- each payment to an entered unit of a group fits
 abbrev pub PaidWithin : UnitTable → Type 0
-PaidWithin t = (i : ℕ) → i < min t.count 128 → (unit_at t i).figures.payment ≤ 8609934590000000
+PaidWithin t = (i : ℕ) → i < min t.count 128 → PaymentFits (unit_at t i)
 
 -- a plant's day support and rate, by what its units come to
 abbrev pub day_of : Plant → Totals → ℕ
@@ -79,13 +78,13 @@ hour_by billed committed weights = record {
 }
 
 abbrev pub sold_of : Table → List Commitment
-sold_of t = take (min t.commitment_count 768) t.commitments
+sold_of t = take (min t.commitments.count 768) t.commitments.rows
 
 -- After the units the plants, the buyers and the hour are settled, by the figures that stand in the units' records.
 pub record RestSettled (header : Header) (before after : Table) : Type 0 where
-  pub plants : (i : ℕ) → i < min before.plant_count 32 → plant_at after i ≡ settled_plant (figures_by header (money_of (both_totals None before.competitive before.guaranteed)) (pos (both_totals None before.competitive before.guaranteed).billed -ℤ pos (volumes (sold_of before))) (plant_at before i) (both_totals (Some (i + 1)) before.competitive before.guaranteed)) (plant_at before i)
-  pub plants_later : (i : ℕ) → min before.plant_count 32 ≤ i → plant_at after i ≡ plant_at before i
-  pub buyers : (i : ℕ) → i < min before.buyer_count 64 → buyer_at after i ≡ settled_buyer (buyer_figures_by (both_totals None before.competitive before.guaranteed).billed (weights_of i before.buyers) (weights_of (i + 1) before.buyers) (weights_of (min before.buyer_count 64) before.buyers) (bought_by (i + 1) (sold_of before))) (buyer_at before i)
-  pub buyers_later : (i : ℕ) → min before.buyer_count 64 ≤ i → buyer_at after i ≡ buyer_at before i
-  pub hour : after.figures ≡ hour_by (both_totals None before.competitive before.guaranteed).billed (volumes (sold_of before)) (weights_of (min before.buyer_count 64) before.buyers)
-  pub rest : after ≡ with_rows after.plants before.competitive before.guaranteed after.buyers after.figures before
+  pub plants : (i : ℕ) → i < min before.plants.count 32 → plant_at after i ≡ settled_plant (figures_by header (money_of (both_totals None before.competitive before.guaranteed)) (pos (both_totals None before.competitive before.guaranteed).billed -ℤ pos (volumes (sold_of before))) (plant_at before i) (both_totals (Some (i + 1)) before.competitive before.guaranteed)) (plant_at before i)
+  pub plants_later : (i : ℕ) → min before.plants.count 32 ≤ i → plant_at after i ≡ plant_at before i
+  pub buyers : (i : ℕ) → i < min before.buyers.count 64 → buyer_at after i ≡ settled_buyer (buyer_figures_by (both_totals None before.competitive before.guaranteed).billed (weights_of i before.buyers.rows) (weights_of (i + 1) before.buyers.rows) (weights_of (min before.buyers.count 64) before.buyers.rows) (bought_by (i + 1) (sold_of before))) (buyer_at before i)
+  pub buyers_later : (i : ℕ) → min before.buyers.count 64 ≤ i → buyer_at after i ≡ buyer_at before i
+  pub hour : after.figures ≡ hour_by (both_totals None before.competitive before.guaranteed).billed (volumes (sold_of before)) (weights_of (min before.buyers.count 64) before.buyers.rows)
+  pub rest : after ≡ with_rows after.plants.rows before.competitive before.guaranteed after.buyers.rows after.figures before

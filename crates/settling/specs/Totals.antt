@@ -3,18 +3,21 @@ use Rattle.std.specs.Prelude.{ℕ, ◌+◌, ◌*◌, ◌≤◌, Bool, true, cond
 use Rattle.allocation.specs.Groups.{sum_of}
 use Rattle.settlement.specs.Support.{active_of}
 use Rattle.table.specs.Rows.{new_unit}
-use Rattle.table.specs.declared.records.UnitReading.{UnitReading}
 use Rattle.table.specs.declared.records.UnitRecord.{UnitRecord}
 use Rattle.settling.specs.Ledger.{adjustments_of, control_of}
 use Rattle.settling.specs.declared.totals.Totals.{Totals}
 
-abbrev pub unit_totals : UnitRecord → Option UnitReading → Totals
-unit_totals u r = record {
+-- a unit is paid so much that sums over a group fit
+abbrev pub PaymentFits : UnitRecord → Type 0
+PaymentFits u = u.figures.payment ≤ 8609934590000000
+
+abbrev pub unit_totals : UnitRecord → Totals
+unit_totals u = record {
   billed = u.figures.billed;
   paid = u.figures.payment;
-  active = active_of (control_of r);
-  opportunity = (adjustments_of r).opportunity;
-  penalties = (adjustments_of r).planning + (adjustments_of r).cooperation;
+  active = active_of (control_of u.reading);
+  opportunity = (adjustments_of u.reading).opportunity;
+  penalties = (adjustments_of u.reading).planning + (adjustments_of u.reading).cooperation;
 }
 
 -- a unit of the plant, or of any plant where none is named
@@ -25,8 +28,8 @@ counted (Some p) u = u.plant == p
 abbrev pub no_totals : Totals
 no_totals = record { billed = 0; paid = 0; active = 0; opportunity = 0; penalties = 0 }
 
-abbrev pub counted_totals : Option ℕ → UnitRecord → Option UnitReading → Totals
-counted_totals plant u r = cond (counted plant u) (unit_totals u r) no_totals
+abbrev pub counted_totals : Option ℕ → UnitRecord → Totals
+counted_totals plant u = cond (counted plant u) (unit_totals u) no_totals
 
 abbrev pub plus_totals : Totals → Totals → Totals
 plus_totals a b = record {
@@ -38,13 +41,13 @@ plus_totals a b = record {
 }
 
 -- the first n units of a group, of one plant or of all
-abbrev pub sum_totals : Option ℕ → List UnitRecord → List (Option UnitReading) → ℕ → Totals
-sum_totals plant units readings n = record {
-  billed = sum_of n (λ i. (counted_totals plant (slice_index_or units i (new_unit 0 0 None 0 0)) (slice_index_or readings i None)).billed);
-  paid = sum_of n (λ i. (counted_totals plant (slice_index_or units i (new_unit 0 0 None 0 0)) (slice_index_or readings i None)).paid);
-  active = sum_of n (λ i. (counted_totals plant (slice_index_or units i (new_unit 0 0 None 0 0)) (slice_index_or readings i None)).active);
-  opportunity = sum_of n (λ i. (counted_totals plant (slice_index_or units i (new_unit 0 0 None 0 0)) (slice_index_or readings i None)).opportunity);
-  penalties = sum_of n (λ i. (counted_totals plant (slice_index_or units i (new_unit 0 0 None 0 0)) (slice_index_or readings i None)).penalties);
+abbrev pub sum_totals : Option ℕ → List UnitRecord → ℕ → Totals
+sum_totals plant units n = record {
+  billed = sum_of n (λ i. (counted_totals plant (slice_index_or units i (new_unit 0 0 None 0 0))).billed);
+  paid = sum_of n (λ i. (counted_totals plant (slice_index_or units i (new_unit 0 0 None 0 0))).paid);
+  active = sum_of n (λ i. (counted_totals plant (slice_index_or units i (new_unit 0 0 None 0 0))).active);
+  opportunity = sum_of n (λ i. (counted_totals plant (slice_index_or units i (new_unit 0 0 None 0 0))).opportunity);
+  penalties = sum_of n (λ i. (counted_totals plant (slice_index_or units i (new_unit 0 0 None 0 0))).penalties);
 }
 
 -- totals of at most n units

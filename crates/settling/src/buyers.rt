@@ -1,13 +1,13 @@
 // The figures of buyers: shares of the billed energy, and net purchases.
-ghost use Rattle.std.specs.Prelude.{◌≡◌, ℕ, ◌+◌, ◌*◌, ◌<◌, ◌≤◌, length, slice_index_or};
+ghost use Rattle.std.specs.Prelude.{◌≡◌, ℕ, ◌+◌, ◌*◌, ◌<◌, ◌≤◌, min, cond, length, ◌==◌, slice_index_or};
 ghost use Rattle.table.specs.Rows.{new_buyer};
-ghost use Rattle.settling.specs.Figures.{bought_of, bought_by, volumes};
+ghost use Rattle.settling.specs.Figures.{bought_by, volumes};
 ghost use Rattle.settling.specs.Settled.{settled_buyer};
-ghost use Rattle.settling.specs.Stages.{buyer_weight, weights_of, buyer_figures_by};
+ghost use Rattle.settling.specs.Stages.{buyer_weight, weights_of, share_of, buyer_figures_by};
 
 use crate::differences::difference;
 use settlement::{running_share, weight};
-use table::{Buyer, BuyerFigures, Commitment};
+use table::{BUYERS, Buyer, BuyerFigures, Commitment, Rows};
 
 // A buyer's weight; a missing use counts as 0.
 fn weight_of(buyer: &Buyer) -> u64
@@ -17,91 +17,98 @@ fn weight_of(buyer: &Buyer) -> u64
     weight(buyer.used.unwrap_or(0), buyer.loss)
 }
 
-// The weights of the first `n` buyers.
-pub(crate) fn total_weight(buyers: &[Buyer], n: usize) -> u64
-    requires { (n ≤ 64) × (n ≤ length buyers.now) }
-    ensures value { result ≡ weights_of n buyers.now }
-    ensures bound { result ≤ 64 * 5153960754 }
-{
-    let mut sum = 0u64;
-    for i in 0..n {
-        sum += weight_of(&buyers[i]);
-    }
-    sum
+/// The commitments that are entered.
+#[derive(Clone, Copy)]
+pub(crate) struct Sold<'t> {
+    pub(crate) commitments: &'t [Commitment],
+    ghost few: { length commitments.now ≤ 768 },
 }
 
-// All volumes.
-pub(crate) fn all_volumes(commitments: &[Commitment]) -> u64
-    requires { length commitments.now ≤ 768 }
-    ensures value { result ≡ volumes commitments.now }
-    ensures bound { result ≤ 768 * 4294967295 }
-{
-    let mut sum = 0u64;
-    for commitment in commitments {
-        sum += commitment.volume as u64;
+impl Sold<'_> {
+    /// All volumes.
+    pub(crate) fn volumes(&self) -> u64
+        ensures value { result ≡ volumes self.now.commitments.now }
+        ensures bound { result ≤ 768 * 4294967295 }
+    {
+        self.commitments
+            .iter()
+            .map(|commitment| commitment.volume as u64)
+            .sum()
     }
-    sum
-}
 
-// The volume of a commitment that names the buyer.
-fn bought_of(commitment: &Commitment, buyer: u32) -> u32
-    ensures { result ≡ bought_of buyer commitment.now }
-{
-    if commitment.buyer != buyer {
-        return 0;
-    }
-    commitment.volume
-}
-
-// The volumes that a buyer bought.
-fn bought_by(commitments: &[Commitment], buyer: u32) -> u64
-    requires { length commitments.now ≤ 768 }
-    ensures value { result ≡ bought_by buyer commitments.now }
-    ensures bound { result ≤ 768 * 4294967295 }
-{
-    let mut sum = 0u64;
-    for commitment in commitments {
-        sum += bought_of(commitment, buyer) as u64;
-    }
-    sum
-}
-
-// A buyer's share is the running share with it less the one before it.
-fn buyer_figures(billed: u64, before: u64, upto: u64, total: u64, bought: u64) -> BuyerFigures
-    requires { (billed ≤ 9000000000000) × ((before ≤ upto) × ((upto ≤ total) × (bought ≤ 768 * 4294967295))) }
-    ensures { result ≡ buyer_figures_by billed before upto total bought }
-{
-    let share = (running_share(billed, upto, total) - running_share(billed, before, total)) as u64;
-    BuyerFigures {
-        share,
-        net: difference(share, bought),
+    // The volumes that a buyer bought.
+    fn bought_by(&self, buyer: u32) -> u64
+        ensures value { result ≡ bought_by buyer self.now.commitments.now }
+        ensures bound { result ≤ 768 * 4294967295 }
+    {
+        self.commitments
+            .iter()
+            .filter(|commitment| commitment.buyer == buyer)
+            .map(|commitment| commitment.volume as u64)
+            .sum()
     }
 }
 
-fn write_figures(buyer: &mut Buyer, figures: BuyerFigures)
-    ensures { buyer.new ≡ settled_buyer figures buyer.old }
-{
-    buyer.figures = figures;
+/// Billed energy that is shared among buyers, and what their weights come to.
+#[derive(Clone, Copy)]
+pub(crate) struct Shares {
+    pub(crate) billed: u64,
+    pub(crate) weights: u64,
+    ghost bounded: { billed ≤ 9000000000000 },
 }
 
-// Shares the billed energy among the first `n` buyers by their weights.
-pub(crate) fn settle_buyers(
-    buyers: &mut [Buyer],
-    n: usize,
-    commitments: &[Commitment],
-    billed: u64,
-    total: u64,
-)
-    requires { (n ≤ 64) × ((n ≤ length buyers.old) × ((length commitments.now ≤ 768) × ((billed ≤ 9000000000000) × (total ≡ weights_of n buyers.old)))) }
-    ensures entered { (k : ℕ) → k < n → slice_index_or buyers.new k (new_buyer 0) ≡ settled_buyer (buyer_figures_by billed (weights_of k buyers.old) (weights_of (k + 1) buyers.old) total (bought_by (k + 1) commitments.now)) (slice_index_or buyers.old k (new_buyer 0)) }
-    ensures others { (k : ℕ) → n ≤ k → slice_index_or buyers.new k (new_buyer 0) ≡ slice_index_or buyers.old k (new_buyer 0) }
+impl Shares {
+    pub(crate) fn new(billed: u64, buyers: &[Buyer]) -> Shares
+        requires { (billed ≤ 9000000000000) × (length buyers.now ≤ 64) }
+        ensures billed { result.billed ≡ billed }
+        ensures weights { result.weights ≡ weights_of (length buyers.now) buyers.now }
+    {
+        let weights = buyers.iter().map(weight_of).sum();
+        Shares { billed, weights }
+    }
+
+    // A buyer's share is the running share with it less the one before it.
+    fn between(&self, before: u64, upto: u64) -> u64
+        requires { (before ≤ upto) × (upto ≤ self.now.weights) }
+        ensures value { result ≡ share_of self.now.billed before upto self.now.weights }
+        ensures bound { result ≤ 9000000000000 }
+    {
+        (running_share(self.billed, upto, self.weights)
+            - running_share(self.billed, before, self.weights)) as u64
+    }
+
+    // The figures of a buyer between two running weights, which bought so much.
+    fn figures(&self, before: u64, upto: u64, bought: u64) -> BuyerFigures
+        requires { (before ≤ upto) × ((upto ≤ self.now.weights) × (bought ≤ 768 * 4294967295)) }
+        ensures { result ≡ buyer_figures_by self.now.billed before upto self.now.weights bought }
+    {
+        let share = self.between(before, upto);
+        BuyerFigures {
+            share,
+            net: difference(share, bought),
+        }
+    }
+
+    /// What falls to no buyer: all of it where no buyer has a weight.
+    pub(crate) fn unassigned(&self) -> u64
+        ensures { result ≡ cond (self.now.weights == 0) self.now.billed 0 }
+    {
+        if self.weights == 0 { self.billed } else { 0 }
+    }
+}
+
+/// Shares the billed energy among the buyers that are entered by their weights.
+pub(crate) fn settle_buyers(buyers: &mut Rows<Buyer, BUYERS>, sold: &Sold, shares: &Shares)
+    requires { shares.now.weights ≡ weights_of (min buyers.old.count 64) buyers.old.rows }
+    ensures count { buyers.new.count ≡ buyers.old.count }
+    ensures entered { (k : ℕ) → k < min buyers.old.count 64 → slice_index_or buyers.new.rows k (new_buyer 0) ≡ settled_buyer (buyer_figures_by shares.now.billed (weights_of k buyers.old.rows) (weights_of (k + 1) buyers.old.rows) shares.now.weights (bought_by (k + 1) sold.now.commitments.now)) (slice_index_or buyers.old.rows k (new_buyer 0)) }
+    ensures others { (k : ℕ) → min buyers.old.count 64 ≤ k → slice_index_or buyers.new.rows k (new_buyer 0) ≡ slice_index_or buyers.old.rows k (new_buyer 0) }
 {
-    let mut before = 0u64;
-    for i in 0..n {
-        let upto = before + weight_of(&buyers[i]);
-        let bought = bought_by(commitments, i as u32 + 1);
-        let figures = buyer_figures(billed, before, upto, total, bought);
-        write_figures(&mut buyers[i], figures);
+    let entered = buyers.entered().len();
+    let mut before = 0;
+    for (place, buyer) in buyers.rows[..entered].iter_mut().enumerate() {
+        let upto = before + weight_of(buyer);
+        buyer.figures = shares.figures(before, upto, sold.bought_by(place as u32 + 1));
         before = upto;
     }
 }

@@ -2,16 +2,15 @@
 ghost use Rattle.std.specs.Prelude.{◌≡◌};
 ghost use Rattle.settling.specs.Headers.{checked};
 
+use curves::MAX_PRICE;
 use table::BookRefusal;
-
-const MAX_PRICE: u32 = 10_000_000;
 
 const MAX_COEFFICIENT: u32 = 50_000;
 
 const MAX_BASE: u32 = 1_000_000;
 
 /// What an hour is settled by. It is made by its check alone.
-#[derive(Clone, Copy)]
+#[derive(Clone, Copy, Debug, PartialEq)]
 pub struct Header {
     pub(crate) ceiling: u32,
     /// Readiness coefficient, in ten-thousandths.

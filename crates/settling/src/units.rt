@@ -1,117 +1,67 @@
 // The figures of units: billed energy, then payments.
-ghost use Rattle.std.specs.Prelude.{◌≡◌, ℕ, ◌<◌, ◌≤◌, length, get_or, None, slice_index_or};
-ghost use Rattle.settlement.specs.Reference.{bill_of};
+ghost use Rattle.std.specs.Prelude.{◌≡◌, ℕ, ◌<◌, ◌≤◌, length, None, slice_index_or};
 ghost use Rattle.table.specs.Rows.{new_unit};
-ghost use Rattle.settling.specs.Figures.{row_payment, offer_payment};
-ghost use Rattle.settling.specs.Ledger.{energies_of, loss_at};
-ghost use Rattle.settling.specs.Settled.{billed_to, paid_to, paid_of};
+ghost use Rattle.settling.specs.Figures.{bill_in};
+ghost use Rattle.settling.specs.Ledger.{UnitCase, case_of, energies_of, loss_at};
+ghost use Rattle.settling.specs.Settled.{GroupSettled, settled_unit};
+ghost use Rattle.settling.specs.Stages.{PaidWithin};
+ghost use Rattle.settling.specs.Totals.{PaymentFits};
 
-use crate::rows::{PriceRow, offer_payment, row_payment};
-use curves::Curve;
-use settlement::{CompetitiveEnergies, PaidUnit, bill};
-use table::{Plant, UnitReading, UnitRecord};
+use settlement::{CompetitiveEnergies, bill};
+use table::{Plant, UnitRecord, UnitTable};
 
-// The energies of a reading; zeros if it is missing.
-fn energies_of(reading: &Option<UnitReading>) -> CompetitiveEnergies
-    ensures { result ≡ energies_of reading.now }
+/// What the units of a group are paid by.
+pub(crate) trait Payer {
+    // What a unit is paid, by its place.
+    ghost payment: { Self → ℕ → UnitCase → ℕ };
+
+    /// What a billed unit is paid, by its place and its plant's loss.
+    fn payment(&self, place: usize, unit: &UnitRecord, loss: u32) -> u64
+        requires billed { unit.now.figures.billed ≡ bill_in (case_of loss unit.now) }
+        ensures value { result ≡ payment self.now place (case_of loss unit.now) }
+        ensures bound { result ≤ 8609934590000000 };
+}
+
+/// The energies of a unit's reading; zeros if it is missing.
+pub(crate) fn energies_of(unit: &UnitRecord) -> CompetitiveEnergies
+    ensures { result ≡ energies_of unit.now.reading }
 {
-    match reading {
-        Some(r) => r.energies,
-        None => CompetitiveEnergies {
-            net: 0,
-            accepted: 0,
-            lost: 0,
-            limited: 0,
-            executed: 0,
-            asked: 0,
-        },
-    }
+    unit.reading.unwrap_or_default().energies
 }
 
 // The loss of the plant of a number.
 fn loss_of(plants: &[Plant], number: u32) -> u32
     ensures { result ≡ loss_at plants.now number }
 {
-    let place = (number as usize).saturating_sub(1);
-    if place >= plants.len() {
-        return 0;
-    }
-    plants[place].loss
+    plants
+        .get((number as usize).saturating_sub(1))
+        .map_or(0, |plant| plant.loss)
 }
 
-fn write_bill(unit: &mut UnitRecord, billed: u32)
-    ensures { unit.new ≡ billed_to billed unit.old }
+// Bills and pays the unit at a place.
+fn settle_unit<P: Payer>(unit: &mut UnitRecord, place: usize, loss: u32, payer: &P)
+    ensures value { unit.new ≡ settled_unit (P.payment payer.now place) loss unit.old }
+    ensures bound { PaymentFits unit.new }
 {
-    unit.figures.billed = billed;
+    unit.figures.billed = bill(energies_of(unit).net, loss);
+    unit.figures.payment = payer.payment(place, unit, loss);
 }
 
-fn write_payment(unit: &mut UnitRecord, payment: u64)
-    ensures { unit.new ≡ paid_to payment unit.old }
+// Bills and pays each unit.
+fn settle_units<P: Payer>(units: &mut [UnitRecord], plants: &[Plant], payer: &P)
+    ensures each { (k : ℕ) → k < length units.old → slice_index_or units.new k (new_unit 0 0 None 0 0) ≡ settled_unit (P.payment payer.now k) (loss_at plants.now (slice_index_or units.old k (new_unit 0 0 None 0 0)).plant) (slice_index_or units.old k (new_unit 0 0 None 0 0)) }
+    ensures bound { (k : ℕ) → k < length units.old → PaymentFits (slice_index_or units.new k (new_unit 0 0 None 0 0)) }
 {
-    unit.figures.payment = payment;
-}
-
-// Bills each of the first `n` units by its reading.
-pub(crate) fn bill_units(
-    units: &mut [UnitRecord],
-    n: usize,
-    readings: &[Option<UnitReading>],
-    plants: &[Plant],
-)
-    requires { (n ≤ length units.old) × (n ≤ length readings.now) }
-    ensures entered { (k : ℕ) → k < n → slice_index_or units.new k (new_unit 0 0 None 0 0) ≡ billed_to (bill_of (loss_at plants.now (get_or units.old k (new_unit 0 0 None 0 0)).plant) (energies_of (slice_index_or readings.now k None)).net) (slice_index_or units.old k (new_unit 0 0 None 0 0)) }
-    ensures others { (k : ℕ) → n ≤ k → slice_index_or units.new k (new_unit 0 0 None 0 0) ≡ slice_index_or units.old k (new_unit 0 0 None 0 0) }
-{
-    for i in 0..n {
-        let loss = loss_of(plants, units[i].plant);
-        let billed = bill(energies_of(&readings[i]).net, loss);
-        write_bill(&mut units[i], billed);
+    for (place, unit) in units.iter_mut().enumerate() {
+        settle_unit(unit, place, loss_of(plants, unit.plant), payer);
     }
 }
 
-// A competitive unit as its payment looks at it.
-fn paid_unit(unit: &UnitRecord, reading: &Option<UnitReading>, loss: u32) -> PaidUnit
-    ensures { result ≡ paid_of loss unit.now reading.now }
+/// Bills and pays the units of a group that are entered.
+pub(crate) fn settle_group<P: Payer>(group: &mut UnitTable, plants: &[Plant], payer: &P)
+    ensures settled { GroupSettled (P.payment payer.now) plants.now group.old group.new }
+    ensures bound { PaidWithin group.new }
 {
-    PaidUnit {
-        loss,
-        internal: unit.internal,
-        allocated: unit.figures.allocated,
-        energies: energies_of(reading),
-    }
-}
-
-// Pays each of the first `n` competitive units, which are billed, by its price row.
-pub(crate) fn pay_by_rows<O: Curve, C: Curve>(
-    units: &mut [UnitRecord],
-    n: usize,
-    readings: &[Option<UnitReading>],
-    plants: &[Plant],
-    rows: &[PriceRow<O, C>],
-    ceiling: u32,
-)
-    requires { (n ≤ length units.old) × (n ≤ length readings.now) }
-    ensures entered { (k : ℕ) → k < n → slice_index_or units.new k (new_unit 0 0 None 0 0) ≡ paid_to (row_payment O.Curve.prices C.Curve.prices ceiling rows.now k (paid_of (loss_at plants.now (get_or units.old k (new_unit 0 0 None 0 0)).plant) (slice_index_or units.old k (new_unit 0 0 None 0 0)) (slice_index_or readings.now k None))) (slice_index_or units.old k (new_unit 0 0 None 0 0)) }
-    ensures bounded { (k : ℕ) → k < n → (get_or units.new k (new_unit 0 0 None 0 0)).figures.payment ≤ 8609934590000000 }
-    ensures others { (k : ℕ) → n ≤ k → slice_index_or units.new k (new_unit 0 0 None 0 0) ≡ slice_index_or units.old k (new_unit 0 0 None 0 0) }
-{
-    for i in 0..n {
-        let loss = loss_of(plants, units[i].plant);
-        let unit = paid_unit(&units[i], &readings[i], loss);
-        let payment = row_payment(rows, i, &unit, ceiling);
-        write_payment(&mut units[i], payment);
-    }
-}
-
-// Pays each of the first `n` guaranteed units, which are billed, by its offer.
-pub(crate) fn pay_by_offers<G: Curve>(units: &mut [UnitRecord], n: usize, offers: &[G], saving: u32)
-    requires { n ≤ length units.old }
-    ensures entered { (k : ℕ) → k < n → slice_index_or units.new k (new_unit 0 0 None 0 0) ≡ paid_to (offer_payment G.prices saving offers.now k (get_or units.old k (new_unit 0 0 None 0 0)).figures.billed (get_or units.old k (new_unit 0 0 None 0 0)).feeds) (slice_index_or units.old k (new_unit 0 0 None 0 0)) }
-    ensures bounded { (k : ℕ) → k < n → (get_or units.new k (new_unit 0 0 None 0 0)).figures.payment ≤ 8609934590000000 }
-    ensures others { (k : ℕ) → n ≤ k → slice_index_or units.new k (new_unit 0 0 None 0 0) ≡ slice_index_or units.old k (new_unit 0 0 None 0 0) }
-{
-    for i in 0..n {
-        let payment = offer_payment(offers, i, units[i].figures.billed, units[i].feeds, saving);
-        write_payment(&mut units[i], payment);
-    }
+    let entered = group.entered().len();
+    settle_units(&mut group.rows[..entered], plants, payer);
 }

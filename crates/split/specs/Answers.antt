@@ -2,8 +2,7 @@
 use Rattle.std.specs.Prelude.{◌≡◌, ℕ, List, ◌++◌, length}
 use Rattle.allocation.specs.Groups.{group_of, amount_at, row_cost}
 use Rattle.allocation.specs.Laws.{Split}
-use Rattle.curves.specs.Kinds.{stepped_offer_price}
-use Rattle.curves.specs.declared.stepped.SteppedOffer.{SteppedOffer}
+use Rattle.curves.specs.Kinds.{SteppedOffer, stepped_offer_price}
 use Rattle.split.specs.Text.{share_text}
 
 -- the lines of a share: the amounts of its split, one for each unit, their cost and what they leave uncovered

@@ -3,10 +3,10 @@ ghost use Rattle.std.specs.Prelude.{◌≡◌, ◌≤◌, true, [], ◌∷◌, �
 ghost use Rattle.split.specs.Answers.{Answer, AddsAnswer};
 ghost use Rattle.split.specs.declared.faults.Fault.TheVariants.{UnitAfterShare};
 
-use crate::faults::{Fault, MAX_UNITS};
+use crate::faults::Fault;
 use crate::lines::{Line, read_line};
 use crate::report::share_text;
-use allocation::{split, total_cost};
+use allocation::{MAX_UNITS, split, total_cost};
 use curves::SteppedOffer;
 use std::alloc::{AllocError, Global};
 
@@ -16,6 +16,7 @@ pub const MAX_INPUT: u64 = 1 << 20;
 // A job as far as it was read, and the text that answers it.
 #[derive(Drop)]
 struct Job {
+    // Two rows for the units, since a split reads limits and offers as two slices.
     limits: Vec<u32>,
     offers: Vec<SteppedOffer>,
     shares_begun: bool,

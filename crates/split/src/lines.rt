@@ -1,5 +1,5 @@
 // Reads the lines of a job.
-ghost use Rattle.std.specs.Prelude.{◌≡◌, ◌^◌, ◌<◌, map, IfOk};
+ghost use Rattle.std.specs.Prelude.{◌≡◌, ◌^◌, ◌<◌, map, IfOk, slice_index_or};
 ghost use Rattle.std.specs.Result.{OkIff};
 ghost use Rattle.std.specs.Str.Parse.{IsNumeral, digits_value};
 ghost use Rattle.split.specs.Lines.{KeywordRead, numbers_of, share_read, UnitRead};
@@ -7,6 +7,7 @@ ghost use Rattle.split.specs.Lines.{KeywordRead, numbers_of, share_read, UnitRea
 use crate::faults::Fault;
 use curves::{Step, SteppedOffer};
 use std::alloc::{AllocError, Global};
+use std::str::FromStr;
 
 /// What a line says.
 #[derive(Clone, Copy)]
@@ -22,13 +23,27 @@ enum Keyword {
     Share,
 }
 
+impl FromStr for Keyword {
+    type Err = Fault;
+
+    ghost from_str_gives = { KeywordRead };
+
+    fn from_str(word: &str) -> Result<Keyword, Fault> {
+        match word {
+            "unit" => Ok(Keyword::Unit),
+            "share" => Ok(Keyword::Share),
+            _ => Err(Fault::UnknownWord),
+        }
+    }
+}
+
 /// Reads a line; an empty one says nothing.
 pub(crate) fn read_line(heap: Global, text: &str) -> Result<Option<Line>, Fault> {
     let words = words_of(heap, text)?;
     let Some((first, rest)) = words.as_slice().split_first() else {
         return Ok(None);
     };
-    let keyword = keyword_of(first)?;
+    let keyword = first.parse::<Keyword>()?;
     let numbers = numbers_of(heap, rest)?;
     let line = match keyword {
         Keyword::Unit => unit_line(heap, numbers.as_slice())?,
@@ -40,46 +55,25 @@ pub(crate) fn read_line(heap: Global, text: &str) -> Result<Option<Line>, Fault>
 // The words of a line, without the carriage return at its end.
 fn words_of<'a>(heap: Global, text: &'a str) -> Result<Vec<&'a str>, AllocError> {
     let line = text.strip_suffix('\r').unwrap_or(text);
-    let mut words = Vec::new(heap);
-    for word in line.split(' ') {
-        if !word.is_empty() {
-            words.push(word)?;
-        }
-    }
-    Ok(words)
-}
-
-fn keyword_of(word: &str) -> Result<Keyword, Fault>
-    ensures { KeywordRead word.now result }
-{
-    match word {
-        "unit" => Ok(Keyword::Unit),
-        "share" => Ok(Keyword::Share),
-        _ => Err(Fault::UnknownWord),
-    }
+    line.split(' ')
+        .filter(|word| !word.is_empty())
+        .collect(heap)
 }
 
 fn numbers_of(heap: Global, words: &[&str]) -> Result<Vec<u32>, Fault>
     ensures { IfOk result (λ v. v.items ≡ map (λ w. digits_value 10 w.now) words.now) }
 {
-    let mut numbers = Vec::new(heap);
-    for word in words {
-        numbers.push(number_of(word)?)?;
-    }
-    Ok(numbers)
+    words.iter().map(|word| number_of(word)).try_collect(heap)
 }
 
 // The number that decimal digits write, up to the highest of 32 bits.
 fn number_of(word: &str) -> Result<u32, Fault>
     ensures { OkIff result (IsNumeral 10 word.now × (digits_value 10 word.now < 2 ^ 32)) (digits_value 10 word.now) }
 {
-    if let [b'+', ..] = word.as_bytes() {
+    if word.starts_with('+') {
         return Err(Fault::NoNumber);
     }
-    match word.parse::<u32>() {
-        Ok(n) => Ok(n),
-        Err(_) => Err(Fault::NoNumber),
-    }
+    word.parse().map_err(|_| Fault::NoNumber)
 }
 
 fn share_line(numbers: &[u32]) -> Result<Line, Fault>
@@ -110,18 +104,21 @@ fn unit_line(heap: Global, numbers: &[u32]) -> Result<Line, Fault>
 fn steps_of(heap: Global, numbers: &[u32]) -> Result<Vec<Step>, Fault>
     ensures { IfOk result (λ v. numbers_of v.items ≡ numbers.now) }
 {
-    let mut steps = Vec::new(heap);
-    let mut rest = numbers;
-    while let [width, price, more @ ..] = rest {
-        steps.push(Step {
+    let (pairs, []) = numbers.as_chunks::<2>() else {
+        return Err(Fault::WidthAlone);
+    };
+    Ok(steps_of_pairs(heap, pairs)?)
+}
+
+fn steps_of_pairs(heap: Global, pairs: &[[u32; 2]]) -> Result<Vec<Step>, AllocError>
+    ensures { IfOk result (λ v. v.items
+        ≡ map (λ pair. record { width = slice_index_or pair 0 0; price = slice_index_or pair 1 0 }) pairs.now) }
+{
+    pairs
+        .iter()
+        .map(|[width, price]| Step {
             width: *width,
             price: *price,
-        })?;
-        rest = more;
-    }
-    if rest.is_empty() {
-        Ok(steps)
-    } else {
-        Err(Fault::WidthAlone)
-    }
+        })
+        .collect(heap)
 }

@@ -18,6 +18,7 @@ pub(crate) fn share_text(
     format!(in heap; "share {share}\n{units}cost {cost}\nuncovered {uncovered}\n")
 }
 
+#[tactic(auto, using(crate::proofs::Texts::units_more, std::proofs::lemmas::List::take_all))]
 fn units_text(heap: Global, amounts: &[u32]) -> Result<String, AllocError>
     ensures { IfOk result (λ s. string_bytes s ≡ units_text 1 amounts.now) }
 {

@@ -1,29 +1,33 @@
 -- Counting the kWh of an offer one at a time.
-use Rattle.std.proofs.Common.{◌≡◌, ℕ, suc, ◌+◌, ◌<◌, ◌≤◌, take, ap, ◌∙◌, arith}
-use Rattle.curves.specs.Limits.{read_energy, read_kwh, read_count}
-use Rattle.curves.specs.Prices.{NeverFalls, AtMost}
+use Rattle.std.proofs.Common.{◌≡◌, ℕ, suc, ◌+◌, ◌-◌, ◌<◌, ◌≤◌, ap, Option, None, Some, unwrap_or, MatchOption, arith}
+use Rattle.curves.specs.Limits.{read_energy, read_kwh}
+use Rattle.curves.specs.Prices.{AtMost}
 use Rattle.curves.proofs.Costs.{at_most}
-use Rattle.curves.proofs.Walks.{lifted_rises}
 use Rattle.split_cases.specs.declared.single.Single.{Single}
-use Rattle.split_cases.specs.Singles.{single_price}
+use Rattle.split_cases.specs.Singles.{single_price, single_rises}
 
-pub rises : (s : Single) → NeverFalls (single_price s)
-rises s i j _ le _ =
-    let table = s.below.table in
-    lifted_rises (take (read_count table.count) table.steps) 0 i j le
+-- the kWh at places below n are those from 1 to n
+cheap_from : (s : Single) (n p : ℕ) → n ≤ 2000000 → ((k : ℕ) → 0 ≤ k → k < n → single_price s (read_kwh (k + 1)) ≤ p) → (k : ℕ) → 1 ≤ k → k ≤ n → single_price s k ≤ p
+cheap_from s n p few cheap k from to =
+    let at : read_kwh (k - 1 + 1) ≡ k = omega arith in
+    omega (arith, cheap (k - 1) (omega arith) (omega arith), ap (single_price s) at)
 
--- n kWh are counted, and the next costs more
-pub stopped : (s : Single) (e energy p n q : ℕ) → energy ≡ read_energy e → n < energy → ((k : ℕ) → 1 ≤ k → k ≤ n → single_price s k ≤ p) → q ≡ single_price s (read_kwh (n + 1)) → p < q → AtMost (single_price s) (read_energy e) p n
-stopped s e energy p n q read room cheap priced dear =
-    let at : read_kwh (n + 1) ≡ suc n = omega arith in
-    let next = priced ∙ ap (single_price s) at in
-    at_most (single_price s) (read_energy e) p n (omega arith) (rises s)
-    (record { within = omega arith; cheap = cheap; next = λ _. omega (arith, next) })
-
--- all kWh are counted
-pub passed : (s : Single) (e energy p n : ℕ) → energy ≡ read_energy e → energy ≤ n → ((k : ℕ) → 1 ≤ k → k ≤ n → single_price s k ≤ p) → AtMost (single_price s) (read_energy e) p energy
-passed s e energy p n read all cheap = record {
+-- the kWh before the first dearer one are counted, or all where none is dearer
+pub counted : (s : Single) (e energy p n : ℕ) (r : Option ℕ) → energy ≡ read_energy e → n ≡ unwrap_or r energy
+    → MatchOption r ((k : ℕ) → 0 ≤ k → k < energy → single_price s (read_kwh (k + 1)) ≤ p)
+    (λ i. (0 ≤ i) × (i < energy) × (p < single_price s (read_kwh (i + 1))) × ((k : ℕ) → 0 ≤ k → k < i → single_price s (read_kwh (k + 1)) ≤ p))
+    → AtMost (single_price s) (read_energy e) p n
+counted s e energy p n None read all cheap = record {
   within = omega arith;
-  cheap = λ k from to. cheap k from (omega arith);
+  cheap = λ k from to. cheap_from s n p (omega arith) (λ i low high. cheap i low (omega arith)) k from to;
   dear = λ k above below. absurd (omega arith);
 }
+counted s e energy p n (Some i) read same found =
+    let dear : n < read_energy e = omega (arith, found.1) in
+    let next : read_kwh (i + 1) ≡ suc n = omega arith in
+    at_most (single_price s) (read_energy e) p n (omega arith) (single_rises s)
+    (record {
+      within = omega arith;
+      cheap = cheap_from s n p (omega arith) (λ k low high. found.3 k low (omega arith));
+      next = λ _. omega (arith, found.2, ap (single_price s) next);
+    })

@@ -1,14 +1,15 @@
 // The second calculation: each kWh on its own, without offers.
-use crate::cases::{Case, PlainStep, PlainUnit};
+use crate::cases::{Case, PlainUnit};
 use crate::outcomes::Outcome;
 use std::alloc::{AllocError, Global};
+use std::iter::{repeat, repeat_n};
 
 // A kWh within its unit's limit; the order is that in which they are taken.
 #[derive(PartialEq, Eq, PartialOrd, Ord, Clone, Copy)]
 struct Kwh {
     price: u32,
     unit: usize,
-    place: u32,
+    place: usize,
 }
 
 impl Outcome {
@@ -38,30 +39,24 @@ impl Outcome {
 
 fn all_kwh(heap: Global, units: &[PlainUnit]) -> Result<Vec<Kwh>, AllocError> {
     let mut all = Vec::new(heap);
-    for (i, unit) in units.iter().enumerate() {
-        add_unit(&mut all, i, unit)?;
+    for (unit, plain) in units.iter().enumerate() {
+        add_kwh(&mut all, unit, plain)?;
     }
     Ok(all)
 }
 
-fn add_unit(all: &mut Vec<Kwh>, unit: usize, plain: &PlainUnit) -> Result<(), AllocError> {
-    for place in 0..plain.limit {
-        let price = price_at(plain.steps.as_slice(), place);
-        all.push(Kwh { price, unit, place })?;
-    }
-    Ok(())
-}
-
-// The price of the kWh that has `place` others of its unit before it.
-fn price_at(steps: &[PlainStep], place: u32) -> u32 {
-    let mut before = place;
-    let mut price = 0;
-    for step in steps {
-        price = step.price;
-        if before < step.width {
-            return price;
-        }
-        before -= step.width;
-    }
-    price
+// Adds the kWh within the limit of a unit.
+fn add_kwh(all: &mut Vec<Kwh>, unit: usize, plain: &PlainUnit) -> Result<(), AllocError> {
+    let last = plain.steps.last().map_or(0, |step| step.price);
+    let prices = plain
+        .steps
+        .iter()
+        .flat_map(|step| repeat_n(step.price, step.width as usize))
+        .chain(repeat(last))
+        .take(plain.limit as usize);
+    all.extend(
+        prices
+            .enumerate()
+            .map(|(place, price)| Kwh { price, unit, place }),
+    )
 }

@@ -1,19 +1,13 @@
 // Pseudo-random groups: plain lists of steps, and limits.
-use crate::random::Random;
+use comparing::Random;
+use curves::Step;
 use std::alloc::{AllocError, Global};
-
-/// So many kWh of one price.
-#[derive(Clone, Copy)]
-pub struct PlainStep {
-    pub width: u32,
-    pub price: u32,
-}
 
 /// A unit; the price of its last step goes on without end.
 #[derive(Drop)]
 pub struct PlainUnit {
     pub limit: u32,
-    pub steps: Vec<PlainStep>,
+    pub steps: Vec<Step>,
 }
 
 /// A group and a share to split over it.
@@ -32,26 +26,25 @@ impl Case {
     ) -> Result<Case, AllocError> {
         // The highest price of four steps is 10 times this.
         let price_unit = if random.below(4) == 0 { 1_000_000 } else { 100 };
-        let mut units = Vec::new(heap);
-        for _ in 0..random.below(12) + 1 {
-            let limit = any_limit(random);
-            let steps = any_steps(heap, random, most_steps, price_unit)?;
-            units.push(PlainUnit { limit, steps })?;
-        }
+        let count = random.below(12) + 1;
+        let units: Vec<PlainUnit> = (0..count)
+            .map(|_| -> Result<PlainUnit, AllocError> {
+                let limit = any_limit(random);
+                let steps = any_steps(heap, random, most_steps, price_unit)?;
+                Ok(PlainUnit { limit, steps })
+            })
+            .try_collect(heap)?;
         let share = any_share(random, units.as_slice());
         Ok(Case { units, share })
     }
 
+    /// The limits in a list of their own, beside the offers, as the split takes them.
     pub(crate) fn limits(&self, heap: Global) -> Result<Vec<u32>, AllocError> {
-        let mut limits = Vec::new(heap);
-        for unit in self.units.iter() {
-            limits.push(unit.limit)?;
-        }
-        Ok(limits)
+        self.units.iter().map(|unit| unit.limit).collect(heap)
     }
 }
 
-// From 0 to 60, and often 0.
+// From 0 to 60, and often 0. `often_zero` is 0 half of the time, and a list to choose from draws one number more.
 fn any_limit(random: &mut Random) -> u32 {
     if random.below(6) == 0 {
         0
@@ -66,24 +59,24 @@ fn any_steps(
     random: &mut Random,
     most_steps: u32,
     price_unit: u32,
-) -> Result<Vec<PlainStep>, AllocError> {
-    let mut steps = Vec::new(heap);
+) -> Result<Vec<Step>, AllocError> {
     let mut level = random.below(3);
-    for _ in 0..random.below(most_steps).saturating_add(1) {
-        let width = random.below(20) + 1;
-        let price = level.saturating_mul(price_unit);
-        steps.push(PlainStep { width, price })?;
-        level = level.saturating_add(random.below(3));
-    }
-    Ok(steps)
+    let count = random.below(most_steps).saturating_add(1);
+    (0..count)
+        .map(|_| {
+            let width = random.below(20) + 1;
+            let price = level.saturating_mul(price_unit);
+            level = level.saturating_add(random.below(3));
+            Step { width, price }
+        })
+        .collect(heap)
 }
 
 // From 0 to a little over the sum of the limits; one in eight is just the sum.
 fn any_share(random: &mut Random, units: &[PlainUnit]) -> u32 {
-    let mut sum = 0u32;
-    for unit in units {
-        sum = sum.saturating_add(unit.limit);
-    }
+    let sum = units
+        .iter()
+        .fold(0u32, |sum, unit| sum.saturating_add(unit.limit));
     if random.below(8) == 0 {
         sum
     } else {

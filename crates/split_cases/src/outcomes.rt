@@ -19,6 +19,7 @@ impl Outcome {
         case: &Case,
         offers: &[O],
     ) -> Result<Outcome, AllocError> {
+        // The split takes the offers, the limits and the amounts each as a slice.
         let limits = case.limits(heap)?;
         // No amount is this high, so one that is not written shows.
         let mut amounts = vec![in heap; u32::MAX; limits.len()]?;

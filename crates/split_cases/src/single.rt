@@ -1,11 +1,8 @@
 // A stepped offer whose stretches are single kWh.
-ghost use Rattle.split_cases.specs.Singles.{single_price, single_bounded};
+ghost use Rattle.split_cases.specs.Singles.{single_price, single_bounded, single_rises};
 
-use crate::cases::PlainStep;
-use crate::failures::Failure;
 use crate::offers::FromSteps;
-use curves::{Curve, MAX_KWH, Offer, SteppedOffer};
-use std::alloc::Global;
+use curves::{Curve, CurveRefusal, MAX_KWH, Offer, Step, SteppedOffer};
 
 /// The prices of the offer below, one kWh at a time.
 #[derive(Clone, Copy)]
@@ -23,25 +20,25 @@ impl Curve for Single {
     }
 
     fn stretch_end(&self, kwh: u32) -> u32 {
-        kwh.min(MAX_KWH).max(1)
+        kwh.clamp(1, MAX_KWH)
     }
 }
 
 impl Offer for Single {
+    ghost rises = { single_rises };
+
+    // Counts each kWh, and not each stretch.
     fn count_at_most(&self, energy: u32, price: u32) -> u32 {
         let energy = energy.min(MAX_KWH);
-        for done in 0..energy {
-            if self.price(done + 1) > price {
-                return done;
-            }
-        }
-        energy
+        (0..energy)
+            .find(|done| self.price(*done + 1) > price)
+            .unwrap_or(energy)
     }
 }
 
 impl FromSteps for Single {
-    fn from_steps(heap: Global, steps: &[PlainStep]) -> Result<Single, Failure> {
-        let below = <SteppedOffer as FromSteps>::from_steps(heap, steps)?;
+    fn from_steps(steps: &[Step]) -> Result<Single, CurveRefusal> {
+        let below = SteppedOffer::new(steps)?;
         Ok(Single { below })
     }
 }

@@ -1,13 +1,13 @@
 -- An empty table stands for no entries and no readings.
-use Rattle.std.proofs.Common.{ℕ, [], None, Option, refl, ap, arith}
+use Rattle.std.proofs.Common.{◌≡◌, ℕ, ◌<◌, [], None, refl, ap, arith}
 use Rattle.std.proofs.lemmas.List.{get_or-replicate, length-replicate}
+use Rattle.table.specs.Closing.{unit_at}
 use Rattle.table.specs.History.{UnitsStand, Stands, empty_units, empty_table}
 use Rattle.table.specs.Metered.{Metered}
 use Rattle.table.specs.Rows.{new_unit, new_plant, new_buyer}
 use Rattle.table.specs.declared.records.Buyer.{Buyer}
 use Rattle.table.specs.declared.records.Commitment.{Commitment}
 use Rattle.table.specs.declared.records.Plant.{Plant}
-use Rattle.table.specs.declared.records.UnitReading.{UnitReading}
 use Rattle.table.specs.declared.records.UnitRecord.{UnitRecord}
 
 units_none : (g : ℕ) → UnitsStand g [] empty_units
@@ -27,12 +27,15 @@ empty_stands = record {
   commitments = record { room = omega arith; long = length-replicate {A = Commitment} 768 (record { plant = 0; buyer = 0; volume = 0 }); counted = refl; rows = refl };
 }
 
+unread : (i : ℕ) → i < 128 → (unit_at empty_units i).reading ≡ None
+unread i lt = ap (λ (u : UnitRecord). u.reading) (get_or-replicate {A = UnitRecord} 128 i (new_unit 0 0 None 0 0) (new_unit 0 0 None 0 0) lt)
+
 pub empty_unread : Metered [] empty_table
 empty_unread = record {
-  competitive_long = length-replicate {A = Option UnitReading} 128 None;
-  guaranteed_long = length-replicate {A = Option UnitReading} 128 None;
+  competitive_long = length-replicate {A = UnitRecord} 128 (new_unit 0 0 None 0 0);
+  guaranteed_long = length-replicate {A = UnitRecord} 128 (new_unit 0 0 None 0 0);
   buyers_long = length-replicate {A = Buyer} 64 (new_buyer 0);
-  competitive = λ i lt. get_or-replicate {A = Option UnitReading} 128 i None None lt;
-  guaranteed = λ i lt. get_or-replicate {A = Option UnitReading} 128 i None None lt;
+  competitive = unread;
+  guaranteed = unread;
   uses = λ i lt. ap (λ (b : Buyer). b.used) (get_or-replicate {A = Buyer} 64 i (new_buyer 0) (new_buyer 0) lt);
 }

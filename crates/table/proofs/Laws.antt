@@ -9,18 +9,16 @@ use Rattle.curves.specs.Limits.{read_energy}
 use Rattle.settlement.specs.Shares.{group_one_share, running_share}
 use Rattle.settlement.proofs.Running.{share_le}
 use Rattle.table.proofs.Accepted.{sold_bound}
-use Rattle.table.proofs.Views.{view_same}
-use Rattle.table.specs.Entries.{View, view_of}
+use Rattle.table.proofs.Views.{stands_in_sum}
 use Rattle.table.specs.Closing.{limit_in, declared_in, unit_at, plant_at, plant_group, declared_by, committed_by, share_one, share_two, Allotted, Closed}
-use Rattle.table.specs.ClosingLaw.{group_in, declared_total, share_one_in, share_two_in, amount_in, ClosingLaw}
-use Rattle.table.specs.History.{units_in, unit_in, loss_in, sold_in, UnitsStand, Stands, Proper}
-use Rattle.table.specs.Rows.{closed_figures}
+use Rattle.table.specs.ClosingLaw.{group_in, declared_total, committed_in, share_one_of, share_two_of, amount_in, ClosingLawOf, ClosingLaw}
+use Rattle.table.specs.History.{units_in, unit_in, loss_in, sold_in, UnitsStand, Stands, StandsInSum, Proper}
+use Rattle.table.specs.Rows.{UnitTable, closed_figures}
 use Rattle.table.specs.declared.entries.Entry.{Entry}
 use Rattle.table.specs.declared.records.Plant.{Plant}
 use Rattle.table.specs.declared.records.PlantFigures.{PlantFigures}
 use Rattle.table.specs.declared.records.Table.{Table}
 use Rattle.table.specs.declared.records.UnitRecord.{UnitRecord}
-use Rattle.table.specs.declared.records.UnitTable.{UnitTable}
 
 module _ (g : ℕ) (h : List Entry) (t : UnitTable) (s : UnitsStand g h t) where
   known : min t.count 128 ≡ units_in g h
@@ -79,35 +77,30 @@ pub share_one_le : (whole gross1 gross2 : ℕ) → group_one_share whole gross1 
 share_one_le whole gross1 gross2 =
     cond_both (eqb (gross1 + gross2) 0) whole (running_share whole gross1 (gross1 + gross2)) (λ v. v ≤ whole) (λ _. omega arith) (λ _. share_le whole gross1 (gross1 + gross2) (omega arith))
 
-module _ (h : List Entry) (ok : Proper h) (t : Table) (s : Stands h t) (plant rows1 rows2 : ℕ) where
-  pub committed_stands : committed_by plant t ≡ sold_in plant h
-  committed_stands =
-      let seen : (view_of t).sold plant ≡ sold_in plant h = ap (λ (v : View). v.sold plant) (view_same h t s) in
-      omega (arith, seen, sold_bound h ok plant)
-
-  pub share_one_stands : share_one plant rows1 rows2 t ≡ share_one_in plant rows1 rows2 h
+-- what the table holds of a plant's commitments is what it has sold
+module _ (h : List Entry) (t : Table) (s : StandsInSum h t) (plant sold rows1 rows2 : ℕ) (same : committed_by plant t ≡ sold) where
+  pub share_one_stands : share_one plant rows1 rows2 t ≡ share_one_of sold plant rows1 rows2 h
   share_one_stands =
-      ap (λ c. group_one_share c (declared_by plant rows1 t.competitive) (declared_by plant rows2 t.guaranteed)) committed_stands
-      ∙ ap (λ d. group_one_share (sold_in plant h) d (declared_by plant rows2 t.guaranteed)) (declared_stands 1 h t.competitive s.competitive plant rows1)
-      ∙ ap (group_one_share (sold_in plant h) (declared_total 1 plant rows1 h)) (declared_stands 2 h t.guaranteed s.guaranteed plant rows2)
+      ap (λ c. group_one_share c (declared_by plant rows1 t.competitive) (declared_by plant rows2 t.guaranteed)) same
+      ∙ ap (λ d. group_one_share sold d (declared_by plant rows2 t.guaranteed)) (declared_stands 1 h t.competitive s.competitive plant rows1)
+      ∙ ap (group_one_share sold (declared_total 1 plant rows1 h)) (declared_stands 2 h t.guaranteed s.guaranteed plant rows2)
 
-  pub share_two_stands : share_two plant rows1 rows2 t ≡ share_two_in plant rows1 rows2 h
-  share_two_stands =
-      ap (λ c. c - share_one plant rows1 rows2 t) committed_stands ∙ ap (λ x. sold_in plant h - x) share_one_stands
+  pub share_two_stands : share_two plant rows1 rows2 t ≡ share_two_of sold plant rows1 rows2 h
+  share_two_stands = ap (λ c. c - share_one plant rows1 rows2 t) same ∙ ap (λ x. sold - x) share_one_stands
 
--- the law of a closed hour
-pub closing_law : {O P : Type 0} (prices1 : O → ℕ → ℕ) (offers1 : List O) (prices2 : P → ℕ → ℕ) (offers2 : List P) (h : List Entry) (t after : Table) → Proper h → Stands h t → Closed prices1 offers1 prices2 offers2 t after → ClosingLaw prices1 offers1 prices2 offers2 h after
-closing_law prices1 offers1 prices2 offers2 h t after ok s closed place lt =
+-- the law of a closed hour, by what each plant has sold
+closing_law_of : {O P : Type 0} (sold : ℕ → ℕ) (prices1 : O → ℕ → ℕ) (offers1 : List O) (prices2 : P → ℕ → ℕ) (offers2 : List P) (h : List Entry) (t after : Table) → StandsInSum h t → ((plant : ℕ) → committed_by plant t ≡ sold plant) → Closed prices1 offers1 prices2 offers2 t after → ClosingLawOf sold prices1 offers1 prices2 offers2 h after
+closing_law_of sold prices1 offers1 prices2 offers2 h t after s same closed place lt =
     let plant = place + 1 in
     let r = closed.plants place (omega (arith, s.plants.counted, s.plants.room)) in
     let loss : (plant_at t place).loss ≡ loss_in plant h = s.plants.rows place lt in
     let back : place + 1 - 1 ≡ place = omega arith in
     let row : (plant_at after (plant - 1)).figures ≡ closed_figures (committed_by plant t) (r.left1 + r.left2) =
     ap (λ k. (plant_at after k).figures) back ∙ ap (λ (p : Plant). p.figures) r.row in
-    let one = allotted_law 1 h t.competitive s.competitive prices1 offers1 plant _ _ _ _ after.competitive loss (share_one_stands h ok t s plant (length offers1) (length offers2)) r.one in
-    let two = allotted_law 2 h t.guaranteed s.guaranteed prices2 offers2 plant _ _ _ _ after.guaranteed loss (share_two_stands h ok t s plant (length offers1) (length offers2)) r.two in
-    let sold = committed_stands h ok t s plant (length offers1) (length offers2) in
-    let part = share_one_le (sold_in plant h) (declared_total 1 plant (length offers1) h) (declared_total 2 plant (length offers2) h) in
+    let here = same plant in
+    let one = allotted_law 1 h t.competitive s.competitive prices1 offers1 plant _ _ _ _ after.competitive loss (share_one_stands h t s plant (sold plant) (length offers1) (length offers2) here) r.one in
+    let two = allotted_law 2 h t.guaranteed s.guaranteed prices2 offers2 plant _ _ _ _ after.guaranteed loss (share_two_stands h t s plant (sold plant) (length offers1) (length offers2) here) r.two in
+    let part = share_one_le (sold plant) (declared_total 1 plant (length offers1) h) (declared_total 2 plant (length offers2) h) in
     let allocated : (plant_at after (plant - 1)).figures.allocated ≡ committed_by plant t - (r.left1 + r.left2) = ap (λ (f : PlantFigures). f.allocated) row in
     let run : (plant_at after (plant - 1)).figures.run ≡ r.left1 + r.left2 = ap (λ (f : PlantFigures). f.run) row in
     record {
@@ -115,8 +108,21 @@ closing_law prices1 offers1 prices2 offers2 h t after ok s closed place lt =
       left2 = r.left2;
       one = one;
       two = two;
-      committed = ap (λ (f : PlantFigures). f.committed) row ∙ sold;
+      committed = ap (λ (f : PlantFigures). f.committed) row ∙ here;
       run = run;
-      allocated = omega (arith, allocated, sold, part, one.leaves, two.leaves, one.merit.covered, two.merit.covered);
-      covers = omega (arith, allocated, run, sold, part, one.leaves, two.leaves, one.merit.covered, two.merit.covered);
+      allocated = omega (arith, allocated, here, part, one.leaves, two.leaves, one.merit.covered, two.merit.covered);
+      covers = omega (arith, allocated, run, here, part, one.leaves, two.leaves, one.merit.covered, two.merit.covered);
     }
+
+-- for any history: a sum of commitments over 20,000,000 is read as 20,000,000
+pub closing_law_any : {O P : Type 0} (prices1 : O → ℕ → ℕ) (offers1 : List O) (prices2 : P → ℕ → ℕ) (offers2 : List P) (h : List Entry) (t after : Table) → StandsInSum h t → Closed prices1 offers1 prices2 offers2 t after → ClosingLawOf (λ plant. committed_in plant h) prices1 offers1 prices2 offers2 h after
+closing_law_any prices1 offers1 prices2 offers2 h t after s closed =
+    closing_law_of (λ plant. committed_in plant h) prices1 offers1 prices2 offers2 h t after s (λ plant. ap (λ n. min n 20000000) (s.sold plant)) closed
+
+-- and for one of accepted entries, whose sums are no greater
+pub committed_stands : (h : List Entry) → Proper h → (t : Table) → Stands h t → (plant : ℕ) → committed_by plant t ≡ sold_in plant h
+committed_stands h ok t s plant = omega (arith, (stands_in_sum h t s).sold plant, sold_bound h ok plant)
+
+pub closing_law : {O P : Type 0} (prices1 : O → ℕ → ℕ) (offers1 : List O) (prices2 : P → ℕ → ℕ) (offers2 : List P) (h : List Entry) (t after : Table) → Proper h → Stands h t → Closed prices1 offers1 prices2 offers2 t after → ClosingLaw prices1 offers1 prices2 offers2 h after
+closing_law prices1 offers1 prices2 offers2 h t after ok s closed =
+    closing_law_of (λ plant. sold_in plant h) prices1 offers1 prices2 offers2 h t after (stands_in_sum h t s) (committed_stands h ok t s) closed

@@ -3,15 +3,17 @@ use Rattle.std.proofs.Common.{◌≡◌, ℕ, ◌+◌, ◌-◌, ◌<◌, ◌≤�
 use Rattle.std.proofs.lemmas.List.{get_or-set_same, get_or-set_other, length-set}
 use Rattle.std.proofs.lemmas.Bool.{cases_eq, eq-eqb, ne_eqb, cond-true, cond-false}
 use Rattle.table.proofs.Standing.{no_row, there}
+use Rattle.table.specs.Closing.{unit_at}
 use Rattle.table.specs.Effects.{unless}
 use Rattle.table.specs.Entries.{view_of}
 use Rattle.table.specs.Metered.{last_competitive, last_guaranteed, last_use, next_readings, Metered}
 use Rattle.table.specs.Readings.{reading_rows, applied_reading, after_reading}
-use Rattle.table.specs.Rows.{new_buyer, read_use, kept_reading}
+use Rattle.table.specs.Rows.{new_buyer, new_unit, read_use, with_reading, kept_reading}
 use Rattle.table.specs.declared.readings.Reading.{Reading}
 use Rattle.table.specs.declared.readings.Reading.TheVariants.{Competitive, Guaranteed, Use}
 use Rattle.table.specs.declared.records.Buyer.{Buyer}
 use Rattle.table.specs.declared.records.Table.{Table}
+use Rattle.table.specs.declared.records.UnitRecord.{UnitRecord}
 use Rattle.table.specs.declared.refusals.BookRefusal.{BookRefusal}
 
 -- the row of a number written, and read by number
@@ -29,10 +31,10 @@ applied_metered : (r : Reading) (rs : List Reading) (t : Table) → Metered rs t
 applied_metered (Competitive unit reading) rs t m ok =
     let at = there unit (min t.competitive.count 128) (no_row _ _ _ ok).0 in
     record {
-      competitive_long = length-set t.competitive.readings (unit - 1) _ ∙ m.competitive_long;
+      competitive_long = length-set t.competitive.rows (unit - 1) _ ∙ m.competitive_long;
       guaranteed_long = m.guaranteed_long;
       buyers_long = m.buyers_long;
-      competitive = row_written t.competitive.readings unit 128 (Some reading) None (λ x. x) (λ k. last_competitive k rs) m.competitive_long at.0 m.competitive;
+      competitive = row_written t.competitive.rows unit 128 (with_reading reading (unit_at t.competitive (unit - 1))) (new_unit 0 0 None 0 0) (λ (u : UnitRecord). u.reading) (λ k. last_competitive k rs) m.competitive_long at.0 m.competitive;
       guaranteed = m.guaranteed;
       uses = m.uses;
     }
@@ -40,21 +42,21 @@ applied_metered (Guaranteed unit reading) rs t m ok =
     let at = there unit (min t.guaranteed.count 128) (no_row _ _ _ ok).0 in
     record {
       competitive_long = m.competitive_long;
-      guaranteed_long = length-set t.guaranteed.readings (unit - 1) _ ∙ m.guaranteed_long;
+      guaranteed_long = length-set t.guaranteed.rows (unit - 1) _ ∙ m.guaranteed_long;
       buyers_long = m.buyers_long;
       competitive = m.competitive;
-      guaranteed = row_written t.guaranteed.readings unit 128 (Some (kept_reading reading)) None (λ x. x) (λ k. last_guaranteed k rs) m.guaranteed_long at.0 m.guaranteed;
+      guaranteed = row_written t.guaranteed.rows unit 128 (with_reading (kept_reading reading) (unit_at t.guaranteed (unit - 1))) (new_unit 0 0 None 0 0) (λ (u : UnitRecord). u.reading) (λ k. last_guaranteed k rs) m.guaranteed_long at.0 m.guaranteed;
       uses = m.uses;
     }
 applied_metered (Use buyer used) rs t m ok =
-    let at = there buyer (min t.buyer_count 64) (no_row _ _ _ ok).0 in
+    let at = there buyer (min t.buyers.count 64) (no_row _ _ _ ok).0 in
     record {
       competitive_long = m.competitive_long;
       guaranteed_long = m.guaranteed_long;
-      buyers_long = length-set t.buyers (buyer - 1) _ ∙ m.buyers_long;
+      buyers_long = length-set t.buyers.rows (buyer - 1) _ ∙ m.buyers_long;
       competitive = m.competitive;
       guaranteed = m.guaranteed;
-      uses = row_written t.buyers buyer 64 (read_use used (get_or t.buyers (buyer - 1) (new_buyer 0))) (new_buyer 0) (λ (b : Buyer). b.used) (λ k. last_use k rs) m.buyers_long at.0 m.uses;
+      uses = row_written t.buyers.rows buyer 64 (read_use used (get_or t.buyers.rows (buyer - 1) (new_buyer 0))) (new_buyer 0) (λ (b : Buyer). b.used) (λ k. last_use k rs) m.buyers_long at.0 m.uses;
     }
 
 -- after any reading, accepted or refused, the table holds the last accepted ones

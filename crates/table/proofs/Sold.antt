@@ -1,19 +1,19 @@
--- What a plant has sold, one commitment at a time.
-use Rattle.std.proofs.Common.{◌≡◌, ℕ, ◌+◌, ◌<◌, ◌≤◌, cond, eqb, List, length, get_or, drop, ap, ◌∙◌, arith}
-use Rattle.std.proofs.lemmas.List.{at_drop_more, at_drop_all}
-use Rattle.std.proofs.lemmas.Bool.{eq-eqb, ne_eqb, cond-true, cond-false}
-use Rattle.table.specs.Entries.{sold_by}
+-- Sums over the items that pass a test; what a plant has sold is one, over the commitments.
+use Rattle.std.proofs.Common.{◌≡◌, ℕ, ◌+◌, Bool, true, false, cond, List, [], ◌∷◌, filter, sum_by, refl, ap, ◌∙◌, sym, arith}
+use Rattle.std.proofs.lemmas.List.Sums.{sum_by-cons}
+use Rattle.table.specs.Entries.{volume_of, sold_by}
 use Rattle.table.specs.declared.records.Commitment.{Commitment}
 
--- the next commitment is the plant's, or it isn't
-pub sold_here : (plant : ℕ) (xs : List Commitment) (i : ℕ) (d : Commitment) → i < length xs → (get_or xs i d).plant ≡ plant → sold_by plant (drop i xs) ≡ (get_or xs i d).volume + sold_by plant (drop (i + 1) xs)
-sold_here plant xs i d lt same =
-    at_drop_more (sold_by plant) xs i d lt ∙ ap (λ v. v + sold_by plant (drop (i + 1) xs)) (cond-true _ _ _ (eq-eqb (get_or xs i d).plant plant same))
+-- the items that pass a test; the others count nothing
+pub sum_filter : {X : Type 0} (f : X → ℕ) (p : X → Bool) (xs : List X) → sum_by f (filter p xs) ≡ sum_by (λ x. cond (p x) (f x) 0) xs
+sum_filter f p [] = refl
+sum_filter f p (x ∷ xs) =
+    first (p x) ∙ ap (λ s. cond (p x) (f x) 0 + s) (sum_filter f p xs) ∙ sym (sum_by-cons (λ y. cond (p y) (f y) 0) x xs)
+  where
+    first : (b : Bool) → sum_by f (cond b (x ∷ filter p xs) (filter p xs)) ≡ cond b (f x) 0 + sum_by f (filter p xs)
+    first true = sum_by-cons f x (filter p xs)
+    first false = omega arith
 
-pub sold_other : (plant : ℕ) (xs : List Commitment) (i : ℕ) (d : Commitment) → i < length xs → ((get_or xs i d).plant ≡ plant → ⊥) → sold_by plant (drop i xs) ≡ sold_by plant (drop (i + 1) xs)
-sold_other plant xs i d lt other =
-    let none : cond (eqb (get_or xs i d).plant plant) (get_or xs i d).volume 0 ≡ 0 = cond-false _ _ _ (ne_eqb (get_or xs i d).plant plant other) in
-    omega (arith, at_drop_more (sold_by plant) xs i d lt, none)
-
-pub sold_all : (plant : ℕ) (xs : List Commitment) (i : ℕ) → length xs ≤ i → sold_by plant (drop i xs) ≡ 0
-sold_all plant xs i le = at_drop_all (sold_by plant) xs i le
+pub sold_sum : (plant : ℕ) (xs : List Commitment) → sum_by (volume_of plant) xs ≡ sold_by plant xs
+sold_sum plant [] = refl
+sold_sum plant (c ∷ cs) = sum_by-cons (volume_of plant) c cs ∙ ap (λ s. volume_of plant c + s) (sold_sum plant cs)

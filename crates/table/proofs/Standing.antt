@@ -7,7 +7,7 @@ use Rattle.table.specs.Closing.{unit_at, terms_of}
 use Rattle.table.specs.Effects.{in_group, applied, after_entry, unless}
 use Rattle.table.specs.Entries.{lacks, lacks_unit, rows, view_of}
 use Rattle.table.specs.History.{adds_plant, adds_unit, adds_buyer, plants_in, units_in, buyers_in, commitments_of, loss_in, buyer_loss_in, unit_in, UnitsStand, PlantsStand, BuyersStand, CommitmentsStand, Stands, view_in, next_history}
-use Rattle.table.specs.Rows.{new_plant, new_buyer, new_unit, added, changed, corrected, moved}
+use Rattle.table.specs.Rows.{UnitTable, new_plant, new_buyer, new_unit, added, changed, corrected, moved}
 use Rattle.table.specs.declared.entries.Entry.{Entry}
 use Rattle.table.specs.declared.entries.Entry.TheVariants.{AddPlant, AddCompetitive, AddGuaranteed, Correct, PutAside, TakeBack, AddBuyer, Commit}
 use Rattle.table.specs.declared.records.Buyer.{Buyer}
@@ -15,7 +15,6 @@ use Rattle.table.specs.declared.records.Commitment.{Commitment}
 use Rattle.table.specs.declared.records.Plant.{Plant}
 use Rattle.table.specs.declared.records.Table.{Table}
 use Rattle.table.specs.declared.records.UnitRecord.{UnitRecord}
-use Rattle.table.specs.declared.records.UnitTable.{UnitTable}
 use Rattle.table.specs.declared.refusals.BookRefusal.{BookRefusal}
 use Rattle.table.specs.declared.refusals.BookRefusal.TheVariants.{NoPlant, NoBuyer, Full, Energy, Commitments}
 
@@ -73,9 +72,9 @@ units_add g e h t u room one entered s =
     let at : t.count ≡ units_in g h = s.count in
     record {
       room = omega (arith, s.count);
-      long = length-set t.units t.count u ∙ s.long;
+      long = length-set t.rows t.count u ∙ s.long;
       count = omega (arith, s.count);
-      rows = λ i lt. one_more terms_of t.units t.count u (new_unit 0 0 None 0 0) (λ k. unit_in g (k + 1) h) (λ k. unit_in g (k + 1) (e ∷ h))
+      rows = λ i lt. one_more terms_of t.rows t.count u (new_unit 0 0 None 0 0) (λ k. unit_in g (k + 1) h) (λ k. unit_in g (k + 1) (e ∷ h))
           (omega (arith, s.long)) (λ k below. s.rows k (omega arith))
           (λ k below. entered (k + 1) ∙ cond-false _ _ _ (ne_eqb (k + 1) (units_in g h + 1) (λ same. omega arith)))
           (entered (t.count + 1) ∙ cond-true _ _ _ (eq-eqb (t.count + 1) (units_in g h + 1) (omega arith)))
@@ -86,17 +85,17 @@ units_add g e h t u room one entered s =
 pub units_change : (g : ℕ) (e : Entry) (h : List Entry) (t : UnitTable) (unit : ℕ) (f : UnitRecord → UnitRecord) → ((u : UnitRecord) → terms_of (f u) ≡ f (terms_of u)) → 1 ≤ unit → unit ≤ units_in g h → adds_unit g e ≡ 0 → ((i : ℕ) → unit_in g i (e ∷ h) ≡ cond (eqb i unit) (f (unit_in g i h)) (unit_in g i h)) → UnitsStand g h t → UnitsStand g (e ∷ h) (changed f unit t)
 units_change g e h t unit f terms low high none entered s = record {
   room = omega (arith, s.room);
-  long = length-set t.units (unit - 1) _ ∙ s.long;
+  long = length-set t.rows (unit - 1) _ ∙ s.long;
   count = omega (arith, s.count);
   rows = λ i lt. ⊎_elim
       (λ (here : i ≡ unit - 1).
-      let room : unit - 1 < length t.units = omega (arith, s.long, s.room) in
+      let room : unit - 1 < length t.rows = omega (arith, s.long, s.room) in
       let number : unit - 1 + 1 ≡ unit = omega arith in
-      subst (λ k. terms_of (get_or (set t.units (unit - 1) (f (unit_at t (unit - 1)))) k (new_unit 0 0 None 0 0)) ≡ unit_in g (k + 1) (e ∷ h)) (sym here)
-      (ap terms_of (get_or-set_same t.units (unit - 1) _ _ room) ∙ terms (unit_at t (unit - 1)) ∙ ap f (s.rows (unit - 1) (omega arith))
+      subst (λ k. terms_of (get_or (set t.rows (unit - 1) (f (unit_at t (unit - 1)))) k (new_unit 0 0 None 0 0)) ≡ unit_in g (k + 1) (e ∷ h)) (sym here)
+      (ap terms_of (get_or-set_same t.rows (unit - 1) _ _ room) ∙ terms (unit_at t (unit - 1)) ∙ ap f (s.rows (unit - 1) (omega arith))
       ∙ sym (entered (unit - 1 + 1) ∙ cond-true _ _ _ (eq-eqb _ _ number))))
       (λ (other : i ≡ unit - 1 → ⊥).
-      ap terms_of (get_or-set_other t.units (unit - 1) i _ _ other) ∙ s.rows i (omega arith)
+      ap terms_of (get_or-set_other t.rows (unit - 1) i _ _ other) ∙ s.rows i (omega arith)
       ∙ sym (entered (i + 1) ∙ cond-false _ _ _ (ne_eqb (i + 1) unit (λ same. other (omega arith)))))
       (cases_eq i (unit - 1));
 }
@@ -184,9 +183,9 @@ module _ (e : Entry) (group unit : ℕ) (f : UnitRecord → UnitRecord) (h : Lis
 -- an accepted entry leads to a table that stands for the longer history
 pub applied_stands : (e : Entry) (h : List Entry) (t : Table) → Stands h t → rows (view_of t) e ≡ None → Stands (e ∷ h) (applied e t)
 applied_stands (AddPlant loss) h t s ok =
-    let fits = leb-false 32 (min t.plant_count 32) (no_row _ _ _ ok).0 in
+    let fits = leb-false 32 (min t.plants.count 32) (no_row _ _ _ ok).0 in
     record {
-      plants = plants_add loss h t.plant_count t.plants (omega arith) s.plants;
+      plants = plants_add loss h t.plants.count t.plants.rows (omega arith) s.plants;
       competitive = units_stay 1 (AddPlant loss) h t.competitive refl (λ i. refl) s.competitive;
       guaranteed = units_stay 2 (AddPlant loss) h t.guaranteed refl (λ i. refl) s.guaranteed;
       buyers = buyers_stay (AddPlant loss) h _ _ refl (λ i. refl) s.buyers;
@@ -219,12 +218,12 @@ applied_stands (PutAside group unit) h t s ok =
 applied_stands (TakeBack group unit) h t s ok =
     change_stands (TakeBack group unit) group unit (moved false) h t s refl (λ g. refl) refl refl (λ i. refl) (λ i. refl) (λ u. refl) (λ g i. refl) (no_row _ _ _ ok).0
 applied_stands (AddBuyer loss) h t s ok =
-    let fits = leb-false 64 (min t.buyer_count 64) (no_row _ _ _ ok).0 in
+    let fits = leb-false 64 (min t.buyers.count 64) (no_row _ _ _ ok).0 in
     record {
       plants = plants_stay (AddBuyer loss) h _ _ refl (λ i. refl) s.plants;
       competitive = units_stay 1 (AddBuyer loss) h t.competitive refl (λ i. refl) s.competitive;
       guaranteed = units_stay 2 (AddBuyer loss) h t.guaranteed refl (λ i. refl) s.guaranteed;
-      buyers = buyers_add loss h t.buyer_count t.buyers (omega arith) s.buyers;
+      buyers = buyers_add loss h t.buyers.count t.buyers.rows (omega arith) s.buyers;
       commitments = commitments_stay (AddBuyer loss) h _ _ refl s.commitments;
     }
 applied_stands (Commit plant buyer volume) h t s ok =
@@ -233,13 +232,13 @@ applied_stands (Commit plant buyer volume) h t s ok =
     let roomy : Option BookRefusal = cond (leb 768 (view_of t).commitments) (Some Full) limited in
     let known = no_row (lacks plant (view_of t).plants) NoPlant (cond (lacks buyer (view_of t).buyers) (Some NoBuyer) roomy) ok in
     let bought = no_row (lacks buyer (view_of t).buyers) NoBuyer roomy known.1 in
-    let fits = leb-false 768 (min t.commitment_count 768) (no_row (leb 768 (view_of t).commitments) Full limited bought.1).0 in
+    let fits = leb-false 768 (min t.commitments.count 768) (no_row (leb 768 (view_of t).commitments) Full limited bought.1).0 in
     record {
       plants = plants_stay e h _ _ refl (λ i. refl) s.plants;
       competitive = units_stay 1 e h t.competitive refl (λ i. refl) s.competitive;
       guaranteed = units_stay 2 e h t.guaranteed refl (λ i. refl) s.guaranteed;
       buyers = buyers_stay e h _ _ refl (λ i. refl) s.buyers;
-      commitments = commitments_add plant buyer volume h t.commitment_count t.commitments (omega arith) s.commitments;
+      commitments = commitments_add plant buyer volume h t.commitments.count t.commitments.rows (omega arith) s.commitments;
     }
 
 -- after any entry, accepted or refused, the table stands for the history of the accepted

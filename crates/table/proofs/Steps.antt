@@ -1,5 +1,5 @@
 -- Closing one plant after another.
-use Rattle.std.proofs.Common.{◌≡◌, ℕ, zero, suc, ◌+◌, ◌-◌, ◌<◌, ◌≤◌, min, cond, ltb, List, length, get_or, take, set, None, sum_by, sym, refl, ap, ◌∙◌, subst, ⊎_elim, add-one, arith}
+use Rattle.std.proofs.Common.{◌≡◌, ℕ, zero, suc, ◌+◌, ◌-◌, ◌<◌, ◌≤◌, min, cond, eqb, ltb, List, length, get_or, take, set, None, sum_by, sym, refl, ap, ◌∙◌, subst, ⊎_elim, add-one, arith}
 use mathlib.Core.Path.{fun_ext}
 use Rattle.std.proofs.lemmas.Bool.{cases_eq, cases_lt, eq-eqb, ne_eqb, cond-true, cond-false, cond_both}
 use Rattle.std.proofs.lemmas.List.{get_or-set_same, get_or-set_other, length-set, get_or_past, take_all}
@@ -8,14 +8,27 @@ use Rattle.allocation.specs.Groups.{Group, price_at, sum_of}
 use Rattle.allocation.specs.Laws.{Split}
 use Rattle.allocation.proofs.Sums.{sum_cong}
 use Rattle.curves.specs.Limits.{read_energy}
-use Rattle.table.specs.Closing.{counts, limit_in, declared_in, allocated_to, unit_at, plant_group, GroupClosed, terms_of, SameUnits, Allotted, declared_by, committed_by, share_one, share_two, closed_plant, plant_at, PlantClosed, PlantResult, ClosedTo}
+use Rattle.table.specs.Closing.{counts, limit_in, declared_in, allocated_to, unit_at, plant_group, GroupClosed, terms_of, SameUnits, SamePaid, Allotted, declared_by, committed_by, share_one, share_two, closed_plant, plant_at, PlantClosed, PlantResult, ClosedTo}
 use Rattle.settlement.specs.Shares.{group_one_share}
 use Rattle.table.specs.Effects.{with_plants, with_competitive, with_guaranteed}
-use Rattle.table.specs.Rows.{new_unit, new_plant}
+use Rattle.table.specs.Rows.{UnitTable, new_unit, new_plant}
 use Rattle.table.specs.declared.records.Plant.{Plant}
 use Rattle.table.specs.declared.records.Table.{Table}
 use Rattle.table.specs.declared.records.UnitRecord.{UnitRecord}
-use Rattle.table.specs.declared.records.UnitTable.{UnitTable}
+
+-- a unit with its amount
+abbrev with_amount : ℕ → UnitRecord → UnitRecord
+with_amount amount u =
+    record {
+      plant = u.plant;
+      declared = u.declared;
+      seasonal = u.seasonal;
+      internal = u.internal;
+      feeds = u.feeds;
+      aside = u.aside;
+      reading = u.reading;
+      figures = record { allocated = amount; billed = u.figures.billed; payment = u.figures.payment };
+    }
 
 -- an allocated unit has the terms that it had
 terms_kept : (plant amount : ℕ) (u : UnitRecord) → terms_of (allocated_to plant amount u) ≡ terms_of u
@@ -25,6 +38,19 @@ terms_kept plant amount u =
     (λ (other : u.plant ≡ plant → ⊥). ap terms_of (cond-false _ _ _ (ne_eqb _ _ other)))
     (cases_eq u.plant plant)
 
+-- and its reading
+reading_kept : (plant amount : ℕ) (u : UnitRecord) → (allocated_to plant amount u).reading ≡ u.reading
+reading_kept plant amount u =
+    ⊎_elim
+    (λ (same : u.plant ≡ plant). ap (λ (v : UnitRecord). v.reading) (cond-true _ _ _ (eq-eqb _ _ same)))
+    (λ (other : u.plant ≡ plant → ⊥). ap (λ (v : UnitRecord). v.reading) (cond-false _ _ _ (ne_eqb _ _ other)))
+    (cases_eq u.plant plant)
+
+-- and each figure but its amount
+figure_kept : (f : UnitRecord → ℕ) (plant amount : ℕ) (u : UnitRecord) → (◌≡◌ {A = ℕ} (f (with_amount amount u)) (f u)) → f (allocated_to plant amount u) ≡ f u
+figure_kept f plant amount u same_f =
+    cond_both (eqb u.plant plant) (with_amount amount u) u (λ v. f v ≡ f u) (λ _. same_f) (λ _. refl)
+
 -- units of another plant are as they were
 kept_other : (plant amount : ℕ) (u : UnitRecord) → (u.plant ≡ plant → ⊥) → allocated_to plant amount u ≡ u
 kept_other plant amount u other = cond-false _ _ _ (ne_eqb u.plant plant other)
@@ -32,13 +58,27 @@ kept_other plant amount u other = cond-false _ _ _ (ne_eqb u.plant plant other)
 given_own : (plant amount : ℕ) (u : UnitRecord) → u.plant ≡ plant → (allocated_to plant amount u).figures.allocated ≡ amount
 given_own plant amount u own = ap (λ (v : UnitRecord). v.figures.allocated) (cond-true _ _ _ (eq-eqb u.plant plant own))
 
-pub same_refl : (t : UnitTable) → SameUnits t t
-same_refl t = record { count = refl; readings = refl; long = refl; terms = λ i. refl }
+-- and so does closing a group leave it
+figure_after : (f : UnitRecord → ℕ) → ((amount : ℕ) (u : UnitRecord) → f (with_amount amount u) ≡ f u) → {O : Type 0} (prices : O → ℕ → ℕ) (offers : List O) (plant loss share : ℕ) (t now next : UnitTable) (left : ℕ) → ((i : ℕ) → f (unit_at now i) ≡ f (unit_at t i)) → GroupClosed prices offers plant loss share now next left → (i : ℕ) → f (unit_at next i) ≡ f (unit_at t i)
+figure_after f stays prices offers plant loss share t now next left same closed i =
+    ⊎_elim
+    (λ lt. ap f (closed.entered i lt) ∙ figure_kept f plant (closed.amount i) (unit_at now i) (stays (closed.amount i) (unit_at now i)) ∙ same i)
+    (λ past. ap f (closed.others i past) ∙ same i)
+    (cases_lt i (min now.count 128))
+
+paid_after : {O : Type 0} (prices : O → ℕ → ℕ) (offers : List O) (plant loss share : ℕ) (t now next : UnitTable) (left : ℕ) → SamePaid t now → GroupClosed prices offers plant loss share now next left → SamePaid t next
+paid_after prices offers plant loss share t now next left same closed = record {
+  billed = figure_after (λ u. u.figures.billed) (λ amount u. refl) prices offers plant loss share t now next left same.billed closed;
+  payment = figure_after (λ u. u.figures.payment) (λ amount u. refl) prices offers plant loss share t now next left same.payment closed;
+}
 
 pub same_after : {O : Type 0} (prices : O → ℕ → ℕ) (offers : List O) (plant loss share : ℕ) (t now next : UnitTable) (left : ℕ) → SameUnits t now → GroupClosed prices offers plant loss share now next left → SameUnits t next
 same_after prices offers plant loss share t now next left same closed = record {
   count = closed.count ∙ same.count;
-  readings = closed.readings ∙ same.readings;
+  readings = λ i. ⊎_elim
+      (λ lt. ap (λ (u : UnitRecord). u.reading) (closed.entered i lt) ∙ reading_kept plant (closed.amount i) (unit_at now i) ∙ same.readings i)
+      (λ past. ap (λ (u : UnitRecord). u.reading) (closed.others i past) ∙ same.readings i)
+      (cases_lt i (min now.count 128));
   long = closed.long ∙ same.long;
   terms = λ i. ⊎_elim
       (λ lt. ap terms_of (closed.entered i lt) ∙ terms_kept plant (closed.amount i) (unit_at now i) ∙ same.terms i)
@@ -105,12 +145,12 @@ module _ {O : Type 0} (prices : O → ℕ → ℕ) (offers : List O) (plant : �
   }
 
 module _ {O P : Type 0} (prices1 : O → ℕ → ℕ) (offers1 : List O) (prices2 : P → ℕ → ℕ) (offers2 : List P) (n : ℕ) (before now next : Table) (inv : ClosedTo prices1 offers1 prices2 offers2 n before now) (closed : PlantClosed prices1 offers1 prices2 offers2 n now next) where
-  rows_set : next.plants ≡ set now.plants n (closed_plant (committed_by (n + 1) now) (closed.left1 + closed.left2) (plant_at now n))
-  rows_set = ap (λ (t : Table). t.plants) closed.rest
+  rows_set : next.plants.rows ≡ set now.plants.rows n (closed_plant (committed_by (n + 1) now) (closed.left1 + closed.left2) (plant_at now n))
+  rows_set = ap (λ (t : Table). t.plants.rows) closed.rest
 
   row_other : (place : ℕ) → (place ≡ n → ⊥) → plant_at next place ≡ plant_at now place
   row_other place differs =
-      ap (λ rows. get_or rows place (new_plant 0)) rows_set ∙ get_or-set_other now.plants n place _ (new_plant 0) differs
+      ap (λ rows. get_or rows place (new_plant 0)) rows_set ∙ get_or-set_other now.plants.rows n place _ (new_plant 0) differs
 
   -- commitments, declared energies and so shares are those of the start
   committed_same : (plant : ℕ) → committed_by plant now ≡ committed_by plant before
@@ -132,13 +172,13 @@ module _ {O P : Type 0} (prices1 : O → ℕ → ℕ) (offers1 : List O) (prices
   same_loss : (plant_at now n).loss ≡ (plant_at before n).loss
   same_loss = ap (λ (p : Plant). p.loss) same_row
 
-  here : n < length now.plants → PlantResult prices1 offers1 prices2 offers2 n before next
+  here : n < length now.plants.rows → PlantResult prices1 offers1 prices2 offers2 n before next
   here room = record {
     left1 = closed.left1;
     left2 = closed.left2;
     one = allotted_here prices1 offers1 (n + 1) before.competitive now.competitive next.competitive inv.same1 _ _ _ _ _ same_loss (share_one_lem (n + 1) (length offers1) (length offers2)) closed.one;
     two = allotted_here prices2 offers2 (n + 1) before.guaranteed now.guaranteed next.guaranteed inv.same2 _ _ _ _ _ same_loss (share_two_lem (n + 1) (length offers1) (length offers2)) closed.two;
-    row = ap (λ rows. get_or rows n (new_plant 0)) rows_set ∙ get_or-set_same now.plants n _ (new_plant 0) room
+    row = ap (λ rows. get_or rows n (new_plant 0)) rows_set ∙ get_or-set_same now.plants.rows n _ (new_plant 0) room
         ∙ ap (λ c. closed_plant c (closed.left1 + closed.left2) (plant_at now n)) (committed_same (n + 1))
         ∙ ap (closed_plant (committed_by (n + 1) before) (closed.left1 + closed.left2)) same_row;
   }
@@ -155,17 +195,19 @@ module _ {O P : Type 0} (prices1 : O → ℕ → ℕ) (offers1 : List O) (prices
         row = row_other place (λ e. omega arith) ∙ was.row;
       }
 
-  pub close_step : n < length now.plants → ClosedTo prices1 offers1 prices2 offers2 (n + 1) before next
+  pub close_step : n < length now.plants.rows → ClosedTo prices1 offers1 prices2 offers2 (n + 1) before next
   close_step room =
-      let frame = λ (t : Table) (rows : List Plant). with_plants t.plant_count rows (with_competitive next.competitive (with_guaranteed next.guaranteed t)) in
+      let frame = λ (t : Table) (rows : List Plant). with_plants t.plants.count rows (with_competitive next.competitive (with_guaranteed next.guaranteed t)) in
       record {
         same1 = same_after prices1 offers1 (n + 1) _ _ before.competitive now.competitive next.competitive _ inv.same1 closed.one;
         same2 = same_after prices2 offers2 (n + 1) _ _ before.guaranteed now.guaranteed next.guaranteed _ inv.same2 closed.two;
+        paid1 = paid_after prices1 offers1 (n + 1) _ _ before.competitive now.competitive next.competitive _ inv.paid1 closed.one;
+        paid2 = paid_after prices2 offers2 (n + 1) _ _ before.guaranteed now.guaranteed next.guaranteed _ inv.paid2 closed.two;
         plants = λ place lt. ⊎_elim
             (λ (same : place ≡ n). subst (λ p. PlantResult prices1 offers1 prices2 offers2 p before next) (sym same) (here room))
             (λ (other : place ≡ n → ⊥). earlier place (omega arith))
             (cases_eq place n);
         later = λ place past. row_other place (λ e. omega arith) ∙ inv.later place (omega arith);
-        long = ap length rows_set ∙ length-set now.plants n _ ∙ inv.long;
-        rest = closed.rest ∙ ap (frame now) (sym rows_set) ∙ ap (λ t. frame t next.plants) inv.rest;
+        long = ap length rows_set ∙ length-set now.plants.rows n _ ∙ inv.long;
+        rest = closed.rest ∙ ap (frame now) (sym rows_set) ∙ ap (λ t. frame t next.plants.rows) inv.rest;
       }

@@ -1,37 +1,31 @@
 -- Lists of calls made in turn: what the table then stands for, and what each answers.
 use Rattle.std.proofs.Common.{◌≡◌, ℕ, ◌+◌, ◌<◌, List, [], ◌∷◌, ◌++◌, length, get_or, take, Ok, Err, sym, refl, ap, ◌∙◌, subst}
 use Rattle.std.proofs.lemmas.List.{take_more}
-use Rattle.table.proofs.Kept.{entry_unread, reading_stands, reading_law}
+use Rattle.table.proofs.Kept.{entry_unread, after_either, reading_stands, reading_law}
 use Rattle.table.proofs.Meters.{reading_metered}
 use Rattle.table.proofs.Standing.{entry_stands}
 use Rattle.table.proofs.Views.{view_same}
 use Rattle.table.specs.ClosingLaw.{ClosingLaw}
-use Rattle.table.specs.Effects.{unless, number_of, answer_of, after_entry, after_entries}
-use Rattle.table.specs.Entries.{rows}
+use Rattle.table.specs.Effects.{unless, number_of, answer_of, after_entry, after_calls, after_entries}
+use Rattle.table.specs.Entries.{rows, view_of}
 use Rattle.table.specs.History.{Stands, view_in, accepted, next_history, number_in, answer_in}
 use Rattle.table.specs.Metered.{Metered, next_readings, accepted_readings, reading_answer_in}
-use Rattle.table.specs.Readings.{reading_rows, reading_number, reading_answer, after_reading, after_readings}
+use Rattle.table.specs.Readings.{reading_rows, reading_number, reading_answer, applied_reading, after_reading, after_readings}
 use Rattle.table.specs.declared.entries.Entry.{Entry}
 use Rattle.table.specs.declared.entries.Entry.TheVariants.{AddPlant, AddCompetitive, AddGuaranteed, Correct, PutAside, TakeBack, AddBuyer, Commit}
 use Rattle.table.specs.declared.readings.Reading.{Reading}
+use Rattle.table.specs.declared.readings.Reading.TheVariants.{Competitive, Guaranteed, Use}
 use Rattle.table.specs.declared.records.Table.{Table}
 
--- one entry more, made last
-entries_push : (es : List Entry) (e : Entry) (t : Table) → after_entries (es ++ (e ∷ [])) t ≡ after_entry e (after_entries es t)
-entries_push [] e t = refl
-entries_push (x ∷ es) e t = entries_push es e (after_entry x t)
+-- one call more, made last
+module _ {C : Type 0} (after : C → Table → Table) where
+  calls_push : (cs : List C) (c : C) (t : Table) → after_calls after (cs ++ (c ∷ [])) t ≡ after c (after_calls after cs t)
+  calls_push [] c t = refl
+  calls_push (x ∷ cs) c t = calls_push cs c (after x t)
 
-pub entries_more : (es : List Entry) (i : ℕ) (d : Entry) (t now : Table) → i < length es → now ≡ after_entries (take i es) t → after_entry (get_or es i d) now ≡ after_entries (take (i + 1) es) t
-entries_more es i d t now lt same =
-    ap (after_entry (get_or es i d)) same ∙ sym (ap (λ l. after_entries l t) (take_more es i d lt) ∙ entries_push (take i es) (get_or es i d) t)
-
-readings_push : (rs : List Reading) (r : Reading) (t : Table) → after_readings (rs ++ (r ∷ [])) t ≡ after_reading r (after_readings rs t)
-readings_push [] r t = refl
-readings_push (x ∷ rs) r t = readings_push rs r (after_reading x t)
-
-pub readings_more : (rs : List Reading) (i : ℕ) (d : Reading) (t now : Table) → i < length rs → now ≡ after_readings (take i rs) t → after_reading (get_or rs i d) now ≡ after_readings (take (i + 1) rs) t
-readings_more rs i d t now lt same =
-    ap (after_reading (get_or rs i d)) same ∙ sym (ap (λ l. after_readings l t) (take_more rs i d lt) ∙ readings_push (take i rs) (get_or rs i d) t)
+  pub calls_more : (cs : List C) (i : ℕ) (d : C) (t now : Table) → i < length cs → now ≡ after_calls after (take i cs) t → after (get_or cs i d) now ≡ after_calls after (take (i + 1) cs) t
+  calls_more cs i d t now lt same =
+      ap (after (get_or cs i d)) same ∙ sym (ap (λ l. after_calls after l t) (take_more cs i d lt) ∙ calls_push (take i cs) (get_or cs i d) t)
 
 -- a table that stands for a history stands for its accepted entries after any more
 pub entries_stand : (es h : List Entry) (t : Table) → Stands h t → Stands (accepted h es) (after_entries es t)
@@ -72,6 +66,22 @@ readings_metered [] rs h t s m = m
 readings_metered (r ∷ more) rs h t s m =
     readings_metered more (next_readings (view_in h) r rs) h (after_reading r t) (reading_stands r h t s)
     (subst (λ v. Metered (next_readings v r rs) (after_reading r t)) (view_same h t s) (reading_metered r rs t m))
+
+-- readings keep what the rows see of a table
+view_kept : (r : Reading) (t : Table) → view_of (after_reading r t) ≡ view_of t
+view_kept r t = after_either (λ x. view_of x ≡ view_of t) r t refl (applied_view r)
+  where
+    applied_view : (x : Reading) → view_of (applied_reading x t) ≡ view_of t
+    applied_view (Competitive unit reading) = refl
+    applied_view (Guaranteed unit reading) = refl
+    applied_view (Use buyer used) = refl
+
+-- so a table holds the last of the readings that its own view accepts
+pub readings_metered_here : (more rs : List Reading) (t : Table) → Metered rs t → Metered (accepted_readings (view_of t) rs more) (after_readings more t)
+readings_metered_here [] rs t m = m
+readings_metered_here (r ∷ more) rs t m =
+    subst (λ v. Metered (accepted_readings v (next_readings (view_of t) r rs) more) (after_readings more (after_reading r t))) (view_kept r t)
+    (readings_metered_here more (next_readings (view_of t) r rs) (after_reading r t) (reading_metered r rs t m))
 
 pub reading_answer_same : (r : Reading) (h : List Entry) (t : Table) → Stands h t → reading_answer r t ≡ reading_answer_in (view_in h) r
 reading_answer_same r h t s = ap (λ v. unless (reading_rows v r) Err (Ok (reading_number r))) (view_same h t s)

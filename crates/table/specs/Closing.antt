@@ -8,11 +8,10 @@ use Rattle.settlement.specs.Reference.{net_of}
 use Rattle.settlement.specs.Shares.{group_one_share}
 use Rattle.table.specs.Effects.{with_plants, with_competitive, with_guaranteed}
 use Rattle.table.specs.Entries.{view_of}
-use Rattle.table.specs.Rows.{new_unit, new_plant, closed_figures, no_unit_figures}
+use Rattle.table.specs.Rows.{UnitTable, new_unit, new_plant, closed_figures, no_unit_figures}
 use Rattle.table.specs.declared.records.Plant.{Plant}
 use Rattle.table.specs.declared.records.Table.{Table}
 use Rattle.table.specs.declared.records.UnitRecord.{UnitRecord}
-use Rattle.table.specs.declared.records.UnitTable.{UnitTable}
 
 -- a unit of the plant that is not put aside
 abbrev pub counts : ℕ → UnitRecord → Bool
@@ -41,19 +40,24 @@ allocated_to plant amount u =
       internal = u.internal;
       feeds = u.feeds;
       aside = u.aside;
+      reading = u.reading;
       figures = record { allocated = amount; billed = u.figures.billed; payment = u.figures.payment };
     }) u
 
 -- the unit at a place of a group's table
 abbrev pub unit_at : UnitTable → ℕ → UnitRecord
-unit_at t i = slice_index_or t.units i (new_unit 0 0 None 0 0)
+unit_at t i = slice_index_or t.rows i (new_unit 0 0 None 0 0)
+
+-- the limit of the unit at a place in a plant's group; 0 past the units that are entered
+abbrev pub limit_at : ℕ → ℕ → UnitTable → ℕ → ℕ
+limit_at plant loss t i = cond (nat_lt i (min t.count 128)) (limit_in plant loss (unit_at t i)) 0
 
 -- a plant's group: the units with an offer row; those of other plants, put aside or not entered have limit 0
 abbrev pub plant_group : {O : Type 0} → (O → ℕ → ℕ) → List O → ℕ → ℕ → UnitTable → Group
 plant_group prices offers plant loss t = record {
   units = min (length offers) 128;
   price = price_at prices offers;
-  limit = λ i. read_energy (cond (nat_lt i (min t.count 128)) (limit_in plant loss (unit_at t i)) 0);
+  limit = λ i. read_energy (limit_at plant loss t i);
 }
 
 -- A share is split over a plant's group: its units get the amounts of the split, and nothing else changes.
@@ -61,8 +65,7 @@ pub record GroupClosed {O : Type 0} (prices : O → ℕ → ℕ) (offers : List 
   pub amount : ℕ → ℕ
   pub split : Split (plant_group prices offers plant loss before) share amount left
   pub count : after.count ≡ before.count
-  pub readings : after.readings ≡ before.readings
-  pub long : length after.units ≡ length before.units
+  pub long : length after.rows ≡ length before.rows
   pub entered : (i : ℕ) → i < min before.count 128 → unit_at after i ≡ allocated_to plant (amount i) (unit_at before i)
   pub others : (i : ℕ) → min before.count 128 ≤ i → unit_at after i ≡ unit_at before i
 
@@ -88,18 +91,18 @@ closed_plant committed run p =
     record { loss = p.loss; figures = closed_figures committed run }
 
 abbrev pub plant_at : Table → ℕ → Plant
-plant_at t place = slice_index_or t.plants place (new_plant 0)
+plant_at t place = slice_index_or t.plants.rows place (new_plant 0)
 
 -- Both groups of the plant at a place are closed, and its figures are written; nothing else changes.
 pub record PlantClosed {O P : Type 0} (prices1 : O → ℕ → ℕ) (offers1 : List O) (prices2 : P → ℕ → ℕ) (offers2 : List P) (place : ℕ) (before after : Table) : Type 0 where
-  pub room : place < length before.plants
+  pub room : place < length before.plants.rows
   pub left1 : ℕ
   pub left2 : ℕ
   pub one : GroupClosed prices1 offers1 (place + 1) (plant_at before place).loss (share_one (place + 1) (length offers1) (length offers2) before) before.competitive after.competitive left1
   pub two : GroupClosed prices2 offers2 (place + 1) (plant_at before place).loss (share_two (place + 1) (length offers1) (length offers2) before) before.guaranteed after.guaranteed left2
-  pub rest : after ≡ with_plants before.plant_count (slice_set before.plants place (closed_plant (committed_by (place + 1) before) (left1 + left2) (plant_at before place))) (with_competitive after.competitive (with_guaranteed after.guaranteed before))
+  pub rest : after ≡ with_plants before.plants.count (slice_set before.plants.rows place (closed_plant (committed_by (place + 1) before) (left1 + left2) (plant_at before place))) (with_competitive after.competitive (with_guaranteed after.guaranteed before))
 
--- a unit without its figures: what was entered of it
+-- a unit without its reading and its figures: what was entered of it
 abbrev pub terms_of : UnitRecord → UnitRecord
 terms_of u =
     record {
@@ -109,14 +112,15 @@ terms_of u =
       internal = u.internal;
       feeds = u.feeds;
       aside = u.aside;
+      reading = None;
       figures = no_unit_figures;
     }
 
--- a group's units and readings are as they were, but for the figures
+-- a group's units are as they were, but for the figures
 pub record SameUnits (before after : UnitTable) : Type 0 where
   pub count : after.count ≡ before.count
-  pub readings : after.readings ≡ before.readings
-  pub long : length after.units ≡ length before.units
+  pub readings : (i : ℕ) → (unit_at after i).reading ≡ (unit_at before i).reading
+  pub long : length after.rows ≡ length before.rows
   pub terms : (i : ℕ) → terms_of (unit_at after i) ≡ terms_of (unit_at before i)
 
 -- a plant's units have the amounts of a split of its share over its group
@@ -133,16 +137,23 @@ pub record PlantResult {O P : Type 0} (prices1 : O → ℕ → ℕ) (offers1 : L
   pub two : Allotted prices2 offers2 (place + 1) (plant_at before place).loss (share_two (place + 1) (length offers1) (length offers2) before) before.guaranteed after.guaranteed left2
   pub row : plant_at after place ≡ closed_plant (committed_by (place + 1) before) (left1 + left2) (plant_at before place)
 
+-- what a group's units are billed and paid stays
+pub record SamePaid (before after : UnitTable) : Type 0 where
+  pub billed : (i : ℕ) → (unit_at after i).figures.billed ≡ (unit_at before i).figures.billed
+  pub payment : (i : ℕ) → (unit_at after i).figures.payment ≡ (unit_at before i).figures.payment
+
 -- the plants at the first n places are closed, and nothing else changes
 pub record ClosedTo {O P : Type 0} (prices1 : O → ℕ → ℕ) (offers1 : List O) (prices2 : P → ℕ → ℕ) (offers2 : List P) (n : ℕ) (before after : Table) : Type 0 where
   pub same1 : SameUnits before.competitive after.competitive
   pub same2 : SameUnits before.guaranteed after.guaranteed
+  pub paid1 : SamePaid before.competitive after.competitive
+  pub paid2 : SamePaid before.guaranteed after.guaranteed
   pub plants : (place : ℕ) → place < n → PlantResult prices1 offers1 prices2 offers2 place before after
   pub later : (place : ℕ) → n ≤ place → plant_at after place ≡ plant_at before place
-  pub long : length after.plants ≡ length before.plants
-  pub rest : after ≡ with_plants before.plant_count after.plants (with_competitive after.competitive (with_guaranteed after.guaranteed before))
+  pub long : length after.plants.rows ≡ length before.plants.rows
+  pub rest : after ≡ with_plants before.plants.count after.plants.rows (with_competitive after.competitive (with_guaranteed after.guaranteed before))
 
 -- closing: every plant that is entered
 abbrev pub Closed : {O P : Type 0} → (O → ℕ → ℕ) → List O → (P → ℕ → ℕ) → List P → Table → Table → Type 0
 Closed prices1 offers1 prices2 offers2 before after =
-    ClosedTo prices1 offers1 prices2 offers2 (min before.plant_count 32) before after
+    ClosedTo prices1 offers1 prices2 offers2 (min before.plants.count 32) before after

@@ -7,9 +7,9 @@ use Rattle.curves.specs.Limits.{read_energy}
 use Rattle.settlement.specs.Shares.{group_one_share}
 use Rattle.table.specs.Closing.{limit_in, declared_in, unit_at, plant_at}
 use Rattle.table.specs.History.{units_in, unit_in, loss_in, sold_in, plants_in}
+use Rattle.table.specs.Rows.{UnitTable}
 use Rattle.table.specs.declared.entries.Entry.{Entry}
 use Rattle.table.specs.declared.records.Table.{Table}
-use Rattle.table.specs.declared.records.UnitTable.{UnitTable}
 
 -- a plant's contract group g: its units' limits by the history, 0 for units of other plants
 abbrev pub group_in : {O : Type 0} → ℕ → (O → ℕ → ℕ) → List O → ℕ → List Entry → Group
@@ -23,13 +23,24 @@ group_in g prices offers plant h = record {
 abbrev pub declared_total : ℕ → ℕ → ℕ → List Entry → ℕ
 declared_total g plant rows h = sum_of (min (units_in g h) rows) (λ i. declared_in plant (unit_in g (i + 1) h))
 
--- the shares of the plant's groups
+-- a plant's commitments; a sum over 20,000,000 is read as 20,000,000
+abbrev pub committed_in : ℕ → List Entry → ℕ
+committed_in plant h = min (sold_in plant h) 20000000
+
+-- the shares of the plant's groups in what it has sold
+abbrev pub share_one_of : ℕ → ℕ → ℕ → ℕ → List Entry → ℕ
+share_one_of sold plant rows1 rows2 h =
+    group_one_share sold (declared_total 1 plant rows1 h) (declared_total 2 plant rows2 h)
+
+abbrev pub share_two_of : ℕ → ℕ → ℕ → ℕ → List Entry → ℕ
+share_two_of sold plant rows1 rows2 h = sold - share_one_of sold plant rows1 rows2 h
+
+-- in its accepted commitments
 abbrev pub share_one_in : ℕ → ℕ → ℕ → List Entry → ℕ
-share_one_in plant rows1 rows2 h =
-    group_one_share (sold_in plant h) (declared_total 1 plant rows1 h) (declared_total 2 plant rows2 h)
+share_one_in plant rows1 rows2 h = share_one_of (sold_in plant h) plant rows1 rows2 h
 
 abbrev pub share_two_in : ℕ → ℕ → ℕ → List Entry → ℕ
-share_two_in plant rows1 rows2 h = sold_in plant h - share_one_in plant rows1 rows2 h
+share_two_in plant rows1 rows2 h = share_two_of (sold_in plant h) plant rows1 rows2 h
 
 -- the amounts of a plant's units in a group, as the table has them
 abbrev pub amount_in : ℕ → ℕ → List Entry → UnitTable → ℕ → ℕ
@@ -37,17 +48,27 @@ amount_in g plant h t i =
     cond (nat_lt i (units_in g h) && (unit_in g (i + 1) h).plant == plant) (unit_at t i).figures.allocated 0
 
 -- A plant's groups hold the split of their derived shares under their derived limits. Its run support is what they leave
--- uncovered, its allocated energy the sum of their amounts, and both together are its accepted commitments.
-pub record PlantLaw {O P : Type 0} (prices1 : O → ℕ → ℕ) (offers1 : List O) (prices2 : P → ℕ → ℕ) (offers2 : List P) (plant : ℕ) (h : List Entry) (t : Table) : Type 0 where
+-- uncovered, its allocated energy the sum of their amounts, and both together are what it has sold.
+pub record PlantLawOf {O P : Type 0} (sold : ℕ) (prices1 : O → ℕ → ℕ) (offers1 : List O) (prices2 : P → ℕ → ℕ) (offers2 : List P) (plant : ℕ) (h : List Entry) (t : Table) : Type 0 where
   pub left1 : ℕ
   pub left2 : ℕ
-  pub one : Split (group_in 1 prices1 offers1 plant h) (share_one_in plant (length offers1) (length offers2) h) (amount_in 1 plant h t.competitive) left1
-  pub two : Split (group_in 2 prices2 offers2 plant h) (share_two_in plant (length offers1) (length offers2) h) (amount_in 2 plant h t.guaranteed) left2
-  pub committed : (plant_at t (plant - 1)).figures.committed ≡ sold_in plant h
+  pub one : Split (group_in 1 prices1 offers1 plant h) (share_one_of sold plant (length offers1) (length offers2) h) (amount_in 1 plant h t.competitive) left1
+  pub two : Split (group_in 2 prices2 offers2 plant h) (share_two_of sold plant (length offers1) (length offers2) h) (amount_in 2 plant h t.guaranteed) left2
+  pub committed : (plant_at t (plant - 1)).figures.committed ≡ sold
   pub run : (plant_at t (plant - 1)).figures.run ≡ left1 + left2
   pub allocated : (plant_at t (plant - 1)).figures.allocated ≡ total (group_in 1 prices1 offers1 plant h) (amount_in 1 plant h t.competitive) + total (group_in 2 prices2 offers2 plant h) (amount_in 2 plant h t.guaranteed)
-  pub covers : (plant_at t (plant - 1)).figures.allocated + (plant_at t (plant - 1)).figures.run ≡ sold_in plant h
+  pub covers : (plant_at t (plant - 1)).figures.allocated + (plant_at t (plant - 1)).figures.run ≡ sold
+
+-- the law of each plant, with what each has sold
+abbrev pub ClosingLawOf : {O P : Type 0} → (ℕ → ℕ) → (O → ℕ → ℕ) → List O → (P → ℕ → ℕ) → List P → List Entry → Table → Type 0
+ClosingLawOf sold prices1 offers1 prices2 offers2 h t =
+    (place : ℕ) → place < plants_in h → PlantLawOf (sold (place + 1)) prices1 offers1 prices2 offers2 (place + 1) h t
+
+-- what a plant has sold are its accepted commitments
+abbrev pub PlantLaw : {O P : Type 0} → (O → ℕ → ℕ) → List O → (P → ℕ → ℕ) → List P → ℕ → List Entry → Table → Type 0
+PlantLaw prices1 offers1 prices2 offers2 plant h t =
+    PlantLawOf (sold_in plant h) prices1 offers1 prices2 offers2 plant h t
 
 abbrev pub ClosingLaw : {O P : Type 0} → (O → ℕ → ℕ) → List O → (P → ℕ → ℕ) → List P → List Entry → Table → Type 0
 ClosingLaw prices1 offers1 prices2 offers2 h t =
-    (place : ℕ) → place < plants_in h → PlantLaw prices1 offers1 prices2 offers2 (place + 1) h t
+    ClosingLawOf (λ plant. sold_in plant h) prices1 offers1 prices2 offers2 h t

@@ -2,14 +2,13 @@
 use Rattle.std.specs.Prelude.{ℕ, ◌+◌, true, false, cond, List, [], ◌∷◌, Some, None, Ok, Err, Option, Result, ◌==◌, slice_set}
 use Rattle.curves.specs.declared.refusals.CurveRefusal.{CurveRefusal}
 use Rattle.table.specs.Entries.{rows, view_of}
-use Rattle.table.specs.Rows.{new_plant, new_unit, new_buyer, corrected, moved, added, changed}
+use Rattle.table.specs.Rows.{UnitTable, new_plant, new_unit, new_buyer, corrected, moved, added, changed}
 use Rattle.table.specs.declared.entries.Entry.{Entry}
 use Rattle.table.specs.declared.entries.Entry.TheVariants.{AddPlant, AddCompetitive, AddGuaranteed, Correct, PutAside, TakeBack, AddBuyer, Commit}
 use Rattle.table.specs.declared.records.Buyer.{Buyer}
 use Rattle.table.specs.declared.records.Commitment.{Commitment}
 use Rattle.table.specs.declared.records.Plant.{Plant}
 use Rattle.table.specs.declared.records.Table.{Table}
-use Rattle.table.specs.declared.records.UnitTable.{UnitTable}
 use Rattle.table.specs.declared.refusals.BookRefusal.{BookRefusal}
 use Rattle.table.specs.declared.refusals.UnitRefusal.{UnitRefusal}
 use Rattle.table.specs.declared.refusals.UnitRefusal.TheVariants.{Book, Rows}
@@ -17,66 +16,51 @@ use Rattle.table.specs.declared.refusals.UnitRefusal.TheVariants.{Book, Rows}
 -- one kind of rows changed, and the others as they were
 abbrev pub with_plants : ℕ → List Plant → Table → Table
 with_plants count rows t = record {
-  plant_count = count;
-  plants = rows;
+  plants = record { count = count; rows = rows };
   competitive = t.competitive;
   guaranteed = t.guaranteed;
-  buyer_count = t.buyer_count;
   buyers = t.buyers;
-  commitment_count = t.commitment_count;
   commitments = t.commitments;
   figures = t.figures;
 }
 
 abbrev pub with_competitive : UnitTable → Table → Table
 with_competitive units t = record {
-  plant_count = t.plant_count;
   plants = t.plants;
   competitive = units;
   guaranteed = t.guaranteed;
-  buyer_count = t.buyer_count;
   buyers = t.buyers;
-  commitment_count = t.commitment_count;
   commitments = t.commitments;
   figures = t.figures;
 }
 
 abbrev pub with_guaranteed : UnitTable → Table → Table
 with_guaranteed units t = record {
-  plant_count = t.plant_count;
   plants = t.plants;
   competitive = t.competitive;
   guaranteed = units;
-  buyer_count = t.buyer_count;
   buyers = t.buyers;
-  commitment_count = t.commitment_count;
   commitments = t.commitments;
   figures = t.figures;
 }
 
 abbrev pub with_buyers : ℕ → List Buyer → Table → Table
 with_buyers count rows t = record {
-  plant_count = t.plant_count;
   plants = t.plants;
   competitive = t.competitive;
   guaranteed = t.guaranteed;
-  buyer_count = count;
-  buyers = rows;
-  commitment_count = t.commitment_count;
+  buyers = record { count = count; rows = rows };
   commitments = t.commitments;
   figures = t.figures;
 }
 
 abbrev pub with_commitments : ℕ → List Commitment → Table → Table
 with_commitments count rows t = record {
-  plant_count = t.plant_count;
   plants = t.plants;
   competitive = t.competitive;
   guaranteed = t.guaranteed;
-  buyer_count = t.buyer_count;
   buyers = t.buyers;
-  commitment_count = count;
-  commitments = rows;
+  commitments = record { count = count; rows = rows };
   figures = t.figures;
 }
 
@@ -86,26 +70,30 @@ in_group group f t = cond (group == 1) (with_competitive (f t.competitive) t) (w
 
 -- the number that an accepted entry answers: of the row that it makes or changes
 abbrev pub number_of : Entry → Table → ℕ
-number_of (AddPlant loss) t = t.plant_count + 1
+number_of (AddPlant loss) t = t.plants.count + 1
 number_of (AddCompetitive plant declared internal) t = t.competitive.count + 1
 number_of (AddGuaranteed plant declared seasonal internal feeds) t = t.guaranteed.count + 1
 number_of (Correct group unit declared) t = unit
 number_of (PutAside group unit) t = unit
 number_of (TakeBack group unit) t = unit
-number_of (AddBuyer loss) t = t.buyer_count + 1
-number_of (Commit plant buyer volume) t = t.commitment_count + 1
+number_of (AddBuyer loss) t = t.buyers.count + 1
+number_of (Commit plant buyer volume) t = t.commitments.count + 1
 
 -- an entry that a row turns down answers it, and changes nothing
 abbrev pub unless : {A : Type 0} → Option BookRefusal → (BookRefusal → A) → A → A
 unless None refused accepted = accepted
 unless (Some refusal) refused accepted = refused refusal
 
+-- what a check answers: the row that turns a call down, if there is one
+abbrev pub passes : Option BookRefusal → Result Unit BookRefusal
+passes refusal = unless refusal Err (Ok tt)
+
 abbrev pub answer_of : Entry → Table → Result ℕ BookRefusal
 answer_of entry t = unless (rows (view_of t) entry) Err (Ok (number_of entry t))
 
 -- an accepted entry's change of the table
 abbrev pub applied : Entry → Table → Table
-applied (AddPlant loss) t = with_plants (t.plant_count + 1) (slice_set t.plants t.plant_count (new_plant loss)) t
+applied (AddPlant loss) t = with_plants (t.plants.count + 1) (slice_set t.plants.rows t.plants.count (new_plant loss)) t
 applied (AddCompetitive plant declared internal) t =
     with_competitive (added (new_unit plant declared None internal 0) t.competitive) t
 applied (AddGuaranteed plant declared seasonal internal feeds) t =
@@ -113,18 +101,22 @@ applied (AddGuaranteed plant declared seasonal internal feeds) t =
 applied (Correct group unit declared) t = in_group group (changed (corrected declared) unit) t
 applied (PutAside group unit) t = in_group group (changed (moved true) unit) t
 applied (TakeBack group unit) t = in_group group (changed (moved false) unit) t
-applied (AddBuyer loss) t = with_buyers (t.buyer_count + 1) (slice_set t.buyers t.buyer_count (new_buyer loss)) t
+applied (AddBuyer loss) t = with_buyers (t.buyers.count + 1) (slice_set t.buyers.rows t.buyers.count (new_buyer loss)) t
 applied (Commit plant buyer volume) t =
-    with_commitments (t.commitment_count + 1)
-    (slice_set t.commitments t.commitment_count (record { plant = plant; buyer = buyer; volume = volume })) t
+    with_commitments (t.commitments.count + 1)
+    (slice_set t.commitments.rows t.commitments.count (record { plant = plant; buyer = buyer; volume = volume })) t
 
 abbrev pub after_entry : Entry → Table → Table
 after_entry entry t = unless (rows (view_of t) entry) (λ _. t) (applied entry t)
 
+-- calls made in turn, by what one call makes of a table
+abbrev pub after_calls : {C : Type 0} → (C → Table → Table) → List C → Table → Table
+after_calls after [] t = t
+after_calls after (c ∷ cs) t = after_calls after cs (after c t)
+
 -- entries made in turn
 abbrev pub after_entries : List Entry → Table → Table
-after_entries [] t = t
-after_entries (e ∷ es) t = after_entries es (after_entry e t)
+after_entries entries t = after_calls after_entry entries t
 
 -- A competitive unit that comes with the outcome of making its price rows: the book's rows are looked at first, then the
 -- outcome. It is added where neither turns it down, as a competitive unit is.

@@ -1,9 +1,11 @@
 -- Entries: which row of the table of refusals turns one down, by what was entered before.
-use Rattle.std.specs.Prelude.{ℕ, ◌+◌, min, Bool, true, cond, ◌||◌, List, [], ◌∷◌, take, Some, None, Option, ◌==◌, nat_le, nat_lt}
+use Rattle.std.specs.Prelude.{ℕ, ◌+◌, ◌-◌, min, Bool, true, cond, ◌||◌, List, [], ◌∷◌, take, Some, None, Option, ◌==◌, nat_le, nat_lt}
+use Rattle.std.specs.Option.{unwrap_or}
 use Rattle.table.specs.declared.entries.Entry.{Entry}
 use Rattle.table.specs.declared.entries.Entry.TheVariants.{AddPlant, AddCompetitive, AddGuaranteed, Correct, PutAside, TakeBack, AddBuyer, Commit}
 use Rattle.table.specs.declared.records.Commitment.{Commitment}
 use Rattle.table.specs.declared.records.Table.{Table}
+use Rattle.table.specs.declared.records.UnitRecord.{UnitRecord}
 use Rattle.table.specs.declared.refusals.BookRefusal.{BookRefusal}
 use Rattle.table.specs.declared.refusals.BookRefusal.TheVariants.{NoPlant, NoUnit, NoBuyer, Full, Percentage, Energy, Commitments, OutsideSet}
 
@@ -19,6 +21,10 @@ pub record View : Type 0 where
 -- no such number among `count`, from 1
 abbrev pub lacks : ℕ → ℕ → Bool
 lacks number count = number == 0 || nat_lt count number
+
+-- the place of the row of a number, from 0, if there is one
+abbrev pub row_place : ℕ → ℕ → Option ℕ
+row_place number count = cond (lacks number count) None (Some (number - 1))
 
 -- no such unit, or the group is neither 1 nor 2
 abbrev pub lacks_unit : View → ℕ → ℕ → Bool
@@ -40,6 +46,15 @@ guaranteed_rows v plant declared seasonal internal feeds =
     (cond (nat_lt 2000000 declared || nat_lt 2000000 seasonal) (Some Energy)
     (cond (nat_lt 1 feeds) (Some OutsideSet) None))))
 
+-- a new unit in a group, with so many plants and so many units of the group before it
+abbrev pub new_unit_rows : ℕ → ℕ → UnitRecord → Option BookRefusal
+new_unit_rows plants units u =
+    cond (lacks u.plant plants) (Some NoPlant)
+    (cond (nat_le 128 units) (Some Full)
+    (cond (nat_lt 2000 u.internal) (Some Percentage)
+    (cond (nat_lt 2000000 u.declared || nat_lt 2000000 (unwrap_or u.seasonal 0)) (Some Energy)
+    (cond (nat_lt 1 u.feeds) (Some OutsideSet) None))))
+
 abbrev pub commit_rows : View → ℕ → ℕ → ℕ → Option BookRefusal
 commit_rows v plant buyer volume =
     cond (lacks plant v.plants) (Some NoPlant)
@@ -47,6 +62,10 @@ commit_rows v plant buyer volume =
     (cond (nat_le 768 v.commitments) (Some Full)
     (cond (volume == 0 || nat_lt 20000000 volume) (Some Energy)
     (cond (nat_lt 20000000 (v.sold plant + volume)) (Some Commitments) None))))
+
+-- one more row of a table with a room
+abbrev pub room_rows : ℕ → ℕ → Option BookRefusal
+room_rows count room = cond (nat_le room count) (Some Full) None
 
 -- one more row of a table with a room, with a loss
 abbrev pub added_rows : ℕ → ℕ → ℕ → Option BookRefusal
@@ -71,17 +90,20 @@ rows v (AddBuyer loss) = added_rows v.buyers 64 loss
 rows v (Commit plant buyer volume) = commit_rows v plant buyer volume
 
 -- the volumes of the commitments that name a plant
+abbrev pub volume_of : ℕ → Commitment → ℕ
+volume_of plant c = cond (c.plant == plant) c.volume 0
+
 abbrev pub sold_by : ℕ → List Commitment → ℕ
 sold_by plant [] = 0
-sold_by plant (c ∷ cs) = cond (c.plant == plant) c.volume 0 + sold_by plant cs
+sold_by plant (c ∷ cs) = volume_of plant c + sold_by plant cs
 
 -- what the rows see of a table; a count past the table's room is read as its room
 abbrev pub view_of : Table → View
 view_of t = record {
-  plants = min t.plant_count 32;
+  plants = min t.plants.count 32;
   competitive = min t.competitive.count 128;
   guaranteed = min t.guaranteed.count 128;
-  buyers = min t.buyer_count 64;
-  commitments = min t.commitment_count 768;
-  sold = λ plant. sold_by plant (take (min t.commitment_count 768) t.commitments);
+  buyers = min t.buyers.count 64;
+  commitments = min t.commitments.count 768;
+  sold = λ plant. sold_by plant (take (min t.commitments.count 768) t.commitments.rows);
 }

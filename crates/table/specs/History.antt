@@ -2,8 +2,8 @@
 use Rattle.std.specs.Prelude.{◌≡◌, ℕ, ◌+◌, ◌<◌, ◌≤◌, true, false, cond, ◌&&◌, List, [], ◌∷◌, ◌++◌, length, take, replicate, Some, None, Ok, Err, Result, ◌==◌, slice_index_or}
 use Rattle.table.specs.Closing.{unit_at, terms_of}
 use Rattle.table.specs.Effects.{unless}
-use Rattle.table.specs.Entries.{View, rows, sold_by}
-use Rattle.table.specs.Rows.{new_unit, new_plant, new_buyer, corrected, moved, no_hour_figures}
+use Rattle.table.specs.Entries.{View, view_of, rows, sold_by}
+use Rattle.table.specs.Rows.{UnitTable, new_unit, new_plant, new_buyer, corrected, moved, no_hour_figures}
 use Rattle.table.specs.declared.entries.Entry.{Entry}
 use Rattle.table.specs.declared.entries.Entry.TheVariants.{AddPlant, AddCompetitive, AddGuaranteed, Correct, PutAside, TakeBack, AddBuyer, Commit}
 use Rattle.table.specs.declared.records.Buyer.{Buyer}
@@ -11,7 +11,6 @@ use Rattle.table.specs.declared.records.Commitment.{Commitment}
 use Rattle.table.specs.declared.records.Plant.{Plant}
 use Rattle.table.specs.declared.records.Table.{Table}
 use Rattle.table.specs.declared.records.UnitRecord.{UnitRecord}
-use Rattle.table.specs.declared.records.UnitTable.{UnitTable}
 use Rattle.table.specs.declared.refusals.BookRefusal.{BookRefusal}
 
 -- what one entry adds to the number of plants, of units of a group and of buyers
@@ -155,7 +154,7 @@ Proper (e ∷ h) = (rows (view_in h) e ≡ None) × Proper h
 -- a group's table holds the units of a history
 pub record UnitsStand (g : ℕ) (h : List Entry) (t : UnitTable) : Type 0 where
   pub room : units_in g h ≤ 128
-  pub long : length t.units ≡ 128
+  pub long : length t.rows ≡ 128
   pub count : t.count ≡ units_in g h
   pub rows : (i : ℕ) → i < units_in g h → terms_of (unit_at t i) ≡ unit_in g (i + 1) h
 
@@ -180,27 +179,32 @@ pub record CommitmentsStand (h : List Entry) (count : ℕ) (commitments : List C
   pub counted : count ≡ length (commitments_of h)
   pub rows : take count commitments ≡ commitments_of h
 
--- a table stands for a history, whatever figures it has
+-- a table stands for a history, whatever readings and figures it has
 pub record Stands (h : List Entry) (t : Table) : Type 0 where
-  pub plants : PlantsStand h t.plant_count t.plants
+  pub plants : PlantsStand h t.plants.count t.plants.rows
   pub competitive : UnitsStand 1 h t.competitive
   pub guaranteed : UnitsStand 2 h t.guaranteed
-  pub buyers : BuyersStand h t.buyer_count t.buyers
-  pub commitments : CommitmentsStand h t.commitment_count t.commitments
+  pub buyers : BuyersStand h t.buyers.count t.buyers.rows
+  pub commitments : CommitmentsStand h t.commitments.count t.commitments.rows
+
+-- A table holds the plants and units of a history, and each plant's commitments come to the same sum. One that stands for
+-- a history does.
+pub record StandsInSum (h : List Entry) (t : Table) : Type 0 where
+  pub plants : PlantsStand h t.plants.count t.plants.rows
+  pub competitive : UnitsStand 1 h t.competitive
+  pub guaranteed : UnitsStand 2 h t.guaranteed
+  pub sold : (p : ℕ) → (view_of t).sold p ≡ sold_in p h
 
 -- nothing is entered
 abbrev pub empty_units : UnitTable
-empty_units = record { count = 0; units = replicate 128 (new_unit 0 0 None 0 0); readings = replicate 128 None }
+empty_units = record { count = 0; rows = replicate 128 (new_unit 0 0 None 0 0) }
 
 abbrev pub empty_table : Table
 empty_table = record {
-  plant_count = 0;
-  plants = replicate 32 (new_plant 0);
+  plants = record { count = 0; rows = replicate 32 (new_plant 0) };
   competitive = empty_units;
   guaranteed = empty_units;
-  buyer_count = 0;
-  buyers = replicate 64 (new_buyer 0);
-  commitment_count = 0;
-  commitments = replicate 768 (record { plant = 0; buyer = 0; volume = 0 });
+  buyers = record { count = 0; rows = replicate 64 (new_buyer 0) };
+  commitments = record { count = 0; rows = replicate 768 (record { plant = 0; buyer = 0; volume = 0 }) };
   figures = no_hour_figures;
 }

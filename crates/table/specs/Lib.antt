@@ -2,6 +2,7 @@ pub mod Refusals
 pub mod Rows
 pub mod Entries
 pub mod Effects
+pub mod Groups
 pub mod Readings
 pub mod Closing
 pub mod History

@@ -1,5 +1,6 @@
 -- What the accepted readings of an hour say, by themselves: a list of them, the newest first.
-use Rattle.std.specs.Prelude.{◌≡◌, ℕ, ◌+◌, ◌<◌, cond, List, [], ◌∷◌, length, get_or, Some, None, Ok, Err, Option, Result, ◌==◌, slice_index_or}
+use Rattle.std.specs.Prelude.{◌≡◌, ℕ, ◌+◌, ◌<◌, cond, List, [], ◌∷◌, length, get_or, Some, None, Ok, Err, Option, Result, ◌==◌}
+use Rattle.table.specs.Closing.{unit_at}
 use Rattle.table.specs.Effects.{unless}
 use Rattle.table.specs.Entries.{View}
 use Rattle.table.specs.Readings.{reading_rows, reading_number}
@@ -44,9 +45,9 @@ reading_answer_in v r = unless (reading_rows v r) Err (Ok (reading_number r))
 
 -- a table holds the last readings of a list
 pub record Metered (rs : List Reading) (t : Table) : Type 0 where
-  pub competitive_long : length t.competitive.readings ≡ 128
-  pub guaranteed_long : length t.guaranteed.readings ≡ 128
-  pub buyers_long : length t.buyers ≡ 64
-  pub competitive : (i : ℕ) → i < 128 → slice_index_or t.competitive.readings i None ≡ last_competitive (i + 1) rs
-  pub guaranteed : (i : ℕ) → i < 128 → slice_index_or t.guaranteed.readings i None ≡ last_guaranteed (i + 1) rs
-  pub uses : (i : ℕ) → i < 64 → (get_or t.buyers i (new_buyer 0)).used ≡ last_use (i + 1) rs
+  pub competitive_long : length t.competitive.rows ≡ 128
+  pub guaranteed_long : length t.guaranteed.rows ≡ 128
+  pub buyers_long : length t.buyers.rows ≡ 64
+  pub competitive : (i : ℕ) → i < 128 → (unit_at t.competitive i).reading ≡ last_competitive (i + 1) rs
+  pub guaranteed : (i : ℕ) → i < 128 → (unit_at t.guaranteed i).reading ≡ last_guaranteed (i + 1) rs
+  pub uses : (i : ℕ) → i < 64 → (get_or t.buyers.rows i (new_buyer 0)).used ≡ last_use (i + 1) rs

@@ -1,9 +1,9 @@
 -- Readings of a closed hour: which row of the table of refusals turns one down, what it answers and what it changes.
-use Rattle.std.specs.Prelude.{ℕ, ◌+◌, ◌-◌, max, Bool, cond, ◌||◌, List, [], ◌∷◌, Some, None, Ok, Err, Option, Result, nat_lt, slice_index_or, slice_set}
+use Rattle.std.specs.Prelude.{ℕ, ◌+◌, ◌-◌, max, Bool, cond, ◌||◌, List, Some, None, Ok, Err, Option, Result, nat_lt, slice_index_or, slice_set}
 use Rattle.settlement.specs.declared.readings.CompetitiveEnergies.{CompetitiveEnergies}
 use Rattle.settlement.specs.declared.readings.Control.{Control}
 use Rattle.table.specs.Entries.{View, view_of, lacks}
-use Rattle.table.specs.Effects.{unless, with_competitive, with_guaranteed, with_buyers}
+use Rattle.table.specs.Effects.{unless, after_calls, with_competitive, with_guaranteed, with_buyers}
 use Rattle.table.specs.Rows.{new_buyer, read_unit, kept_reading, read_use}
 use Rattle.table.specs.declared.readings.Reading.{Reading}
 use Rattle.table.specs.declared.readings.Reading.TheVariants.{Competitive, Guaranteed, Use}
@@ -28,13 +28,16 @@ greatest_adjustment a = max (max a.opportunity a.planning) a.cooperation
 abbrev pub outside : Control → Bool
 outside c = nat_lt 400 c.day || nat_lt 1439 c.minute
 
-abbrev pub competitive_reading_rows : ℕ → ℕ → UnitReading → Option BookRefusal
-competitive_reading_rows units unit r =
-    cond (lacks unit units) (Some NoUnit)
-    (cond (nat_lt 2000000 (max (greatest_energy r.energies) (greatest_control r.control))) (Some Energy)
+-- the rows for a reading, whichever unit it is of
+abbrev pub measured_rows : UnitReading → Option BookRefusal
+measured_rows r =
+    cond (nat_lt 2000000 (max (greatest_energy r.energies) (greatest_control r.control))) (Some Energy)
     (cond (nat_lt 100000000 (greatest_adjustment r.adjustments)) (Some Price)
     (cond (nat_lt 1 r.energies.asked || outside r.control) (Some OutsideSet)
-    (cond (nat_lt (r.energies.accepted + r.energies.lost) r.energies.limited) (Some Limited) None))))
+    (cond (nat_lt (r.energies.accepted + r.energies.lost) r.energies.limited) (Some Limited) None)))
+
+abbrev pub competitive_reading_rows : ℕ → ℕ → UnitReading → Option BookRefusal
+competitive_reading_rows units unit r = cond (lacks unit units) (Some NoUnit) (measured_rows r)
 
 abbrev pub guaranteed_reading_rows : ℕ → ℕ → GuaranteedReading → Option BookRefusal
 guaranteed_reading_rows units unit r =
@@ -57,7 +60,7 @@ abbrev pub applied_reading : Reading → Table → Table
 applied_reading (Competitive unit reading) t = with_competitive (read_unit reading unit t.competitive) t
 applied_reading (Guaranteed unit reading) t = with_guaranteed (read_unit (kept_reading reading) unit t.guaranteed) t
 applied_reading (Use buyer used) t =
-    with_buyers t.buyer_count (slice_set t.buyers (buyer - 1) (read_use used (slice_index_or t.buyers (buyer - 1) (new_buyer 0)))) t
+    with_buyers t.buyers.count (slice_set t.buyers.rows (buyer - 1) (read_use used (slice_index_or t.buyers.rows (buyer - 1) (new_buyer 0)))) t
 
 abbrev pub reading_number : Reading → ℕ
 reading_number (Competitive unit reading) = unit
@@ -72,5 +75,4 @@ after_reading reading t = unless (reading_rows (view_of t) reading) (λ _. t) (a
 
 -- readings made in turn
 abbrev pub after_readings : List Reading → Table → Table
-after_readings [] t = t
-after_readings (r ∷ rs) t = after_readings rs (after_reading r t)
+after_readings readings t = after_calls after_reading readings t

@@ -1,6 +1,7 @@
 -- The number of each refusal in the table of refusals.
-use Rattle.std.specs.Prelude.{ℕ}
-use Rattle.curves.specs.Refusals.{refusal_number as curve_number}
+use Rattle.std.specs.Prelude.{ℕ, List, ◌++◌, codes}
+use Rattle.std.specs.Fmt.{decimal}
+use Rattle.curves.specs.Refusals.{refusal_number as curve_number, refusal_text as curve_text}
 use Rattle.table.specs.declared.refusals.BookRefusal.{BookRefusal}
 use Rattle.table.specs.declared.refusals.BookRefusal.TheVariants.{NoPlant, NoUnit, NoBuyer, Full, Percentage, Energy, Commitments, Price, OutsideSet, Limited}
 use Rattle.table.specs.declared.refusals.UnitRefusal.{UnitRefusal}
@@ -22,3 +23,12 @@ refusal_number Limited = 11
 abbrev pub unit_refusal_number : UnitRefusal → ℕ
 unit_refusal_number (Book refusal) = refusal_number refusal
 unit_refusal_number (Rows refusal) = curve_number refusal
+
+-- how a refusal prints
+abbrev pub refusal_text : ℕ → List ℕ
+refusal_text number = codes "refused with " ++ decimal number
+
+-- a unit's refusal prints as the refusal within
+abbrev pub unit_refusal_text : UnitRefusal → List ℕ
+unit_refusal_text (Book refusal) = refusal_text (refusal_number refusal)
+unit_refusal_text (Rows refusal) = curve_text refusal

@@ -1,4 +1,4 @@
--- New rows of the table, and changes of one row.
+-- The units of a group, new rows of the table, and changes of one row.
 use Rattle.std.specs.Prelude.{ℕ, ◌+◌, ◌-◌, Bool, false, pos, Some, None, Option, slice_index_or, slice_set}
 use Rattle.table.specs.declared.records.Buyer.{Buyer}
 use Rattle.table.specs.declared.records.BuyerFigures.{BuyerFigures}
@@ -9,7 +9,11 @@ use Rattle.table.specs.declared.records.PlantFigures.{PlantFigures}
 use Rattle.table.specs.declared.records.UnitFigures.{UnitFigures}
 use Rattle.table.specs.declared.records.UnitReading.{UnitReading}
 use Rattle.table.specs.declared.records.UnitRecord.{UnitRecord}
-use Rattle.table.specs.declared.records.UnitTable.{UnitTable}
+use Rattle.table.specs.declared.rows.Rows.{Rows}
+
+-- the units of one group, over all plants
+abbrev pub UnitTable : Type 0
+UnitTable = Rows UnitRecord 128
 
 abbrev pub no_plant_figures : PlantFigures
 no_plant_figures = record { committed = 0; allocated = 0; run = 0; support = 0; rate = 0; cost = 0 }
@@ -40,13 +44,14 @@ new_unit plant declared seasonal internal feeds =
       internal = internal;
       feeds = feeds;
       aside = false;
+      reading = None;
       figures = no_unit_figures;
     }
 
 abbrev pub new_buyer : ℕ → Buyer
 new_buyer loss = record { loss = loss; used = None; figures = no_buyer_figures }
 
--- another declared gross energy
+-- another declared gross energy; the reading stays
 abbrev pub corrected : ℕ → UnitRecord → UnitRecord
 corrected declared u =
     record {
@@ -56,6 +61,7 @@ corrected declared u =
       internal = u.internal;
       feeds = u.feeds;
       aside = u.aside;
+      reading = u.reading;
       figures = u.figures;
     }
 
@@ -69,26 +75,39 @@ moved aside u =
       internal = u.internal;
       feeds = u.feeds;
       aside = aside;
+      reading = u.reading;
       figures = u.figures;
     }
 
--- one unit more
-abbrev pub added : UnitRecord → UnitTable → UnitTable
-added unit t = record { count = t.count + 1; units = slice_set t.units t.count unit; readings = t.readings }
+-- a reading in place of an earlier one
+abbrev pub with_reading : UnitReading → UnitRecord → UnitRecord
+with_reading reading u =
+    record {
+      plant = u.plant;
+      declared = u.declared;
+      seasonal = u.seasonal;
+      internal = u.internal;
+      feeds = u.feeds;
+      aside = u.aside;
+      reading = Some reading;
+      figures = u.figures;
+    }
+
+-- one row more
+abbrev pub added : {T : Type 0} {N : ℕ} → T → Rows T N → Rows T N
+added row t = record { count = t.count + 1; rows = slice_set t.rows t.count row }
 
 -- the unit of a number changed by f, and no other
 abbrev pub changed : (UnitRecord → UnitRecord) → ℕ → UnitTable → UnitTable
 changed f unit t =
     record {
       count = t.count;
-      units = slice_set t.units (unit - 1) (f (slice_index_or t.units (unit - 1) (new_unit 0 0 None 0 0)));
-      readings = t.readings;
+      rows = slice_set t.rows (unit - 1) (f (slice_index_or t.rows (unit - 1) (new_unit 0 0 None 0 0)));
     }
 
--- the reading of the unit of a number in place of an earlier one
+-- the reading of the unit of a number, and of no other
 abbrev pub read_unit : UnitReading → ℕ → UnitTable → UnitTable
-read_unit reading unit t =
-    record { count = t.count; units = t.units; readings = slice_set t.readings (unit - 1) (Some reading) }
+read_unit reading unit t = changed (with_reading reading) unit t
 
 -- how a guaranteed unit's reading is kept
 abbrev pub kept_reading : GuaranteedReading → UnitReading

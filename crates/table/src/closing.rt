@@ -1,18 +1,17 @@
 // Closing: the split of each plant's commitments over its units.
 ghost use Rattle.std.specs.Prelude.{◌≡◌, ℕ, ◌*◌, ◌<◌, ◌≤◌, min, List, length, None, sum_by, slice_index, slice_index_or};
-ghost use Rattle.table.specs.Closing.{counts, limit_in, declared_in, allocated_to, GroupClosed, declared_by, PlantClosed, Closed};
-ghost use Rattle.table.specs.ClosingLaw.{ClosingLaw};
-ghost use Rattle.table.specs.History.{Stands, Proper};
+ghost use Rattle.table.specs.Closing.{limit_at, counts, limit_in, declared_in, allocated_to, GroupClosed, declared_by, PlantClosed, Closed};
+ghost use Rattle.table.specs.ClosingLaw.{committed_in, ClosingLawOf, ClosingLaw};
+ghost use Rattle.table.specs.History.{Proper, Stands, StandsInSum};
 ghost use Rattle.table.specs.Rows.{new_unit};
 ghost use Rattle.table.specs.declared.entries.Entry.{Entry};
 
-use crate::records::{PLANTS, Plant, PlantFigures, Table, UNITS, UnitRecord, UnitTable};
+use crate::limits::MAX_VOLUME;
+use crate::records::{Plant, PlantFigures, Table, UNITS, UnitRecord, UnitTable};
 use allocation::split;
 use curves::{MAX_KWH, Offer};
 use settlement::{group_one_share, limit};
-
-// The most that a plant sells.
-const MAX_VOLUME: u64 = 20_000_000;
+use std::array;
 
 impl UnitRecord {
     // Whether it is a unit of the plant that is not put aside.
@@ -32,17 +31,6 @@ impl UnitRecord {
         limit(self.seasonal.unwrap_or(self.declared), self.internal, loss)
     }
 
-    // Its declared energy in the plant's group.
-    fn declared_in(&self, plant: u32) -> u32
-        ensures value { result ≡ declared_in plant self.now }
-        ensures bound { result ≤ 2000000 }
-    {
-        if !self.counts_for(plant) {
-            return 0;
-        }
-        self.declared.min(MAX_KWH)
-    }
-
     // Takes its amount if it is the plant's.
     fn allocate(&mut self, plant: u32, amount: u32)
         ensures { self.new ≡ allocated_to plant amount self.old }
@@ -53,52 +41,54 @@ impl UnitRecord {
     }
 }
 
-// Writes the limit of each of the first `n` units in the plant's group.
-fn write_limits(units: &[UnitRecord], n: usize, plant: u32, loss: u32, limits: &mut [u32])
-    requires { (n ≤ length units.now) × (n ≤ length limits.old) }
-    ensures entered { (k : ℕ) → k < n → slice_index limits.new k ≡ limit_in plant loss (slice_index_or units.now k (new_unit 0 0 None 0 0)) }
-    ensures others { (k : ℕ) → n ≤ k → slice_index limits.new k ≡ slice_index limits.old k }
-{
-    for i in 0..n {
-        limits[i] = units[i].limit_in(plant, loss);
-    }
-}
-
 // The declared energy of the plant's group.
 fn declared_by(units: &[UnitRecord], plant: u32) -> u32
     requires { length units.now ≤ 128 }
-    ensures value { result ≡ sum_by (declared_in plant) units.now }
-    ensures bound { result ≤ 128 * 2000000 }
+    ensures { result ≡ sum_by (declared_in plant) units.now }
 {
-    let mut sum = 0u32;
-    for unit in units {
-        sum += unit.declared_in(plant);
-    }
-    sum
+    units
+        .iter()
+        .filter(|unit| unit.counts_for(plant))
+        .map(|unit| unit.declared.min(MAX_KWH))
+        .sum()
 }
 
-// Gives each of the first `n` units its amount, if it is the plant's.
-fn allocate_all(units: &mut [UnitRecord], n: usize, plant: u32, amounts: &[u32])
-    requires { (n ≤ length units.old) × (n ≤ length amounts.now) }
-    ensures entered { (k : ℕ) → k < n → slice_index_or units.new k (new_unit 0 0 None 0 0) ≡ allocated_to plant (slice_index amounts.now k) (slice_index_or units.old k (new_unit 0 0 None 0 0)) }
-    ensures others { (k : ℕ) → n ≤ k → slice_index_or units.new k (new_unit 0 0 None 0 0) ≡ slice_index_or units.old k (new_unit 0 0 None 0 0) }
+// Gives each unit its amount, if it is the plant's. By places: nothing is proved of the units that a zip writes.
+fn allocate_all(units: &mut [UnitRecord], plant: u32, amounts: &[u32])
+    requires { length units.old ≤ length amounts.now }
+    ensures { (k : ℕ) → k < length units.old → slice_index_or units.new k (new_unit 0 0 None 0 0) ≡ allocated_to plant (slice_index amounts.now k) (slice_index_or units.old k (new_unit 0 0 None 0 0)) }
 {
-    for i in 0..n {
-        units[i].allocate(plant, amounts[i]);
+    for (place, unit) in units.iter_mut().enumerate() {
+        unit.allocate(plant, amounts[place]);
     }
 }
 
+// A plant goes by its number and its loss: a struct of the two would be made for one call and taken apart in it.
 impl UnitTable {
+    // The limit of the unit at a place in the plant's group; 0 past the units that are entered.
+    fn limit_at(&self, place: usize, plant: u32, loss: u32) -> u32
+        ensures { result ≡ limit_at plant loss self.now place }
+    {
+        let unit = self.entered().get(place);
+        unit.map_or(0, |unit| unit.limit_in(plant, loss))
+    }
+
+    // The limits of the plant's group.
+    fn limits(&self, plant: u32, loss: u32) -> [u32; UNITS]
+        ensures { (k : ℕ) → slice_index result k ≡ limit_at plant loss self.now k }
+    {
+        array::from_fn(|place| self.limit_at(place, plant, loss))
+    }
+
     // Splits a share over the plant's units of this group, and answers what stays uncovered.
     fn close<O: Offer>(&mut self, offers: &[O], plant: u32, loss: u32, share: u32) -> u32
         ensures { GroupClosed O.Curve.prices offers.now plant loss share self.old self.new result }
     {
-        let n = self.count.min(UNITS);
-        let mut limits = [0u32; UNITS];
-        write_limits(&self.units, n, plant, loss, &mut limits);
+        let entered = self.entered().len();
+        let limits = self.limits(plant, loss);
         let mut amounts = [0u32; UNITS];
         let uncovered = split(offers, &limits, share, &mut amounts);
-        allocate_all(&mut self.units, n, plant, &amounts);
+        allocate_all(&mut self.rows[..entered], plant, &amounts);
         uncovered
     }
 
@@ -106,8 +96,8 @@ impl UnitTable {
     fn declared(&self, plant: u32, rows: usize) -> u32
         ensures { result ≡ declared_by plant rows self.now }
     {
-        let n = self.count.min(UNITS).min(rows);
-        declared_by(&self.units[0..n], plant)
+        let units = self.entered();
+        declared_by(&units[..rows.min(units.len())], plant)
     }
 }
 
@@ -118,33 +108,36 @@ impl Table {
         ensures { PlantClosed O.Curve.prices offers.now G.Curve.prices guaranteed.now place self.old self.new }
     {
         let plant = place as u32 + 1;
-        let loss = self.plants[place].loss;
-        let committed = self.sold(plant).min(MAX_VOLUME) as u32;
-        let gross1 = self.competitive.declared(plant, offers.len());
-        let gross2 = self.guaranteed.declared(plant, guaranteed.len());
-        let share = group_one_share(committed, gross1, gross2);
-        let left1 = self.competitive.close(offers, plant, loss, share);
-        let left2 = self
+        let loss = self.plants.rows[place].loss;
+        let committed = self.sold(plant).min(MAX_VOLUME as u64) as u32;
+        let competitive_gross = self.competitive.declared(plant, offers.len());
+        let guaranteed_gross = self.guaranteed.declared(plant, guaranteed.len());
+        let share = group_one_share(committed, competitive_gross, guaranteed_gross);
+        let competitive_left = self.competitive.close(offers, plant, loss, share);
+        let guaranteed_left = self
             .guaranteed
             .close(guaranteed, plant, loss, committed - share);
-        let figures = PlantFigures::closed(committed, left1 + left2);
-        self.plants[place] = Plant { loss, figures };
+        let figures = PlantFigures::closed(committed, competitive_left + guaranteed_left);
+        self.plants.rows[place] = Plant { loss, figures };
     }
 
-    /// Closes the hour: splits each plant's commitments over its units. The law of a closed hour then holds.
+    /// Closes the hour: splits each plant's commitments over its units. The law of a closed hour then holds. In a history
+    /// that is not one of accepted entries, commitments over 20,000,000 are read as 20,000,000.
     pub fn close<O: Offer, G: Offer>(&mut self, offers: &[O], guaranteed: &[G])
         ensures after { Closed O.Curve.prices offers.now G.Curve.prices guaranteed.now self.old self.new }
         ensures law { (h : List Entry) → Proper h → Stands h self.old → ClosingLaw O.Curve.prices offers.now G.Curve.prices guaranteed.now h self.new }
+        ensures any_history { (h : List Entry) → StandsInSum h self.old → ClosingLawOf (λ plant. committed_in plant h) O.Curve.prices offers.now G.Curve.prices guaranteed.now h self.new }
     {
         self.close_plants(offers, guaranteed);
     }
 
-    // Closes every plant.
+    // Closes every plant. The laws of `close` follow from `Closed`, which the loop proves alone.
     fn close_plants<O: Offer, G: Offer>(&mut self, offers: &[O], guaranteed: &[G])
         ensures { Closed O.Curve.prices offers.now G.Curve.prices guaranteed.now self.old self.new }
     {
-        let n = self.plant_count.min(PLANTS);
-        for place in 0..n {
+        // By places: closing a plant writes into three arrays of the table, so the loop can borrow none.
+        let entered = self.plants.entered().len();
+        for place in 0..entered {
             self.close_plant(place, offers, guaranteed);
         }
     }

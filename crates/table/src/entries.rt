@@ -1,23 +1,22 @@
 // Entries of an open hour: what turns one down, and what it changes.
-ghost use Rattle.std.specs.Prelude.{◌≡◌, ℕ, ◌*◌, ◌<◌, ◌≤◌, min, true, false, length, take, IfNone};
-ghost use Rattle.table.specs.Effects.{answer_of, after_entry, after_entries, priced_answer, after_priced};
+ghost use Rattle.std.specs.Prelude.{◌≡◌, ◌+◌, ◌*◌, ◌<◌, ◌≤◌, min, true, false, List, length, Ok, Err, OnOk};
+ghost use Rattle.table.specs.Effects.{answer_of, after_entry, after_entries, priced_answer, after_priced, unless, passes, in_group};
+ghost use Rattle.table.specs.Groups.{units_of, with_units};
+ghost use Rattle.table.specs.History.{Stands, accepted};
+ghost use Rattle.table.specs.Rows.{added, changed, moved};
 ghost use Rattle.table.specs.Turns.{EntriesAnswered};
-ghost use Rattle.table.specs.Entries.{view_of, lacks, lacks_unit, sold_by, added_rows, competitive_rows, guaranteed_rows, correct_rows, unit_rows, commit_rows};
+ghost use Rattle.table.specs.Entries.{view_of, sold_by, added_rows, new_unit_rows, commit_rows, unit_rows};
 
-use crate::answers::note;
-use crate::records::{
-    BUYERS, Buyer, COMMITMENTS, Commitment, PLANTS, Plant, Table, UNITS, UnitRecord,
-};
+use crate::calls::Call;
+use crate::groups::Group;
+use crate::limits::{MAX_ENERGY, MAX_PERCENTAGE, MAX_VOLUME};
+use crate::records::{Buyer, Commitment, Plant, Table, UnitRecord};
 use crate::refusals::{BookRefusal, UnitRefusal};
+use crate::rows::Rows;
 use curves::CurveRefusal;
 
-const MAX_PERCENTAGE: u32 = 2_000;
-
-const MAX_ENERGY: u32 = 2_000_000;
-
-const MAX_VOLUME: u32 = 20_000_000;
-
-/// An entry of an open hour. Plants, units and buyers go by their numbers, from 1.
+/// An entry of an open hour. Plants, units and buyers go by their numbers, from 1. Any number may be given, also of a group
+/// or in `feeds`: one that is outside its set is refused.
 #[derive(Clone, Copy)]
 pub enum Entry {
     AddPlant {
@@ -61,196 +60,99 @@ pub enum Entry {
 // The volumes sold by a plant.
 fn sold_by(commitments: &[Commitment], plant: u32) -> u64
     requires { length commitments.now ≤ 768 }
-    ensures value { result ≡ sold_by plant commitments.now }
-    ensures bound { result ≤ 768 * 4294967295 }
+    ensures { result ≡ sold_by plant commitments.now }
 {
-    let mut sold = 0u64;
-    for commitment in commitments {
-        if commitment.plant == plant {
-            sold += commitment.volume as u64;
-        }
-    }
-    sold
-}
-
-// The first of a row's commitments that are entered.
-fn entered(commitments: &[Commitment; COMMITMENTS], count: usize) -> &[Commitment]
-    ensures value { result.now ≡ take (min count 768) commitments.now }
-    ensures few { length result.now ≤ 768 }
-{
-    &commitments[0..count.min(COMMITMENTS)]
-}
-
-impl Table {
-    fn lacks_plant(&self, plant: u32) -> bool
-        ensures { result ≡ lacks plant (view_of self.now).plants }
-    {
-        plant == 0 || plant as usize > self.plant_count.min(PLANTS)
-    }
-
-    fn lacks_buyer(&self, buyer: u32) -> bool
-        ensures { result ≡ lacks buyer (view_of self.now).buyers }
-    {
-        buyer == 0 || buyer as usize > self.buyer_count.min(BUYERS)
-    }
-
-    fn lacks_unit(&self, group: u32, unit: u32) -> bool
-        ensures value { result ≡ lacks_unit (view_of self.now) group unit }
-        ensures fits { result ≡ false → (1 ≤ unit) × (unit ≤ 128) }
-    {
-        match group {
-            1 => unit == 0 || unit as usize > self.competitive.count.min(UNITS),
-            2 => unit == 0 || unit as usize > self.guaranteed.count.min(UNITS),
-            _ => true,
-        }
-    }
-
-    // What a plant has sold so far.
-    pub(crate) fn sold(&self, plant: u32) -> u64
-        ensures value { result ≡ (view_of self.now).sold plant }
-        ensures bound { result ≤ 768 * 4294967295 }
-    {
-        sold_by(entered(&self.commitments, self.commitment_count), plant)
-    }
-
-    fn competitive_refusal(&self, plant: u32, declared: u32, internal: u32) -> Option<BookRefusal>
-        ensures value { result ≡ competitive_rows (view_of self.now) plant declared internal }
-        ensures fits { IfNone result (self.now.competitive.count < 128) }
-    {
-        if self.lacks_plant(plant) {
-            return Some(BookRefusal::NoPlant);
-        }
-        if self.competitive.count >= UNITS {
-            return Some(BookRefusal::Full);
-        }
-        if internal > MAX_PERCENTAGE {
-            return Some(BookRefusal::Percentage);
-        }
-        if declared > MAX_ENERGY {
-            return Some(BookRefusal::Energy);
-        }
-        None
-    }
-
-    fn commit_refusal(&self, plant: u32, buyer: u32, volume: u32) -> Option<BookRefusal>
-        ensures value { result ≡ commit_rows (view_of self.now) plant buyer volume }
-        ensures fits { IfNone result (self.now.commitment_count < 768) }
-    {
-        if self.lacks_plant(plant) {
-            return Some(BookRefusal::NoPlant);
-        }
-        if self.lacks_buyer(buyer) {
-            return Some(BookRefusal::NoBuyer);
-        }
-        if self.commitment_count >= COMMITMENTS {
-            return Some(BookRefusal::Full);
-        }
-        if volume == 0 || volume > MAX_VOLUME {
-            return Some(BookRefusal::Energy);
-        }
-        if self.sold(plant) + volume as u64 > MAX_VOLUME as u64 {
-            return Some(BookRefusal::Commitments);
-        }
-        None
-    }
-
-    fn guaranteed_refusal(
-        &self,
-        plant: u32,
-        declared: u32,
-        seasonal: u32,
-        internal: u32,
-        feeds: u32,
-    ) -> Option<BookRefusal>
-        ensures value { result ≡ guaranteed_rows (view_of self.now) plant declared seasonal internal feeds }
-        ensures fits { IfNone result (self.now.guaranteed.count < 128) }
-    {
-        if self.lacks_plant(plant) {
-            return Some(BookRefusal::NoPlant);
-        }
-        if self.guaranteed.count >= UNITS {
-            return Some(BookRefusal::Full);
-        }
-        if internal > MAX_PERCENTAGE {
-            return Some(BookRefusal::Percentage);
-        }
-        if declared > MAX_ENERGY || seasonal > MAX_ENERGY {
-            return Some(BookRefusal::Energy);
-        }
-        if feeds > 1 {
-            return Some(BookRefusal::OutsideSet);
-        }
-        None
-    }
-
-    fn correct_refusal(&self, group: u32, unit: u32, declared: u32) -> Option<BookRefusal>
-        ensures value { result ≡ correct_rows (view_of self.now) group unit declared }
-        ensures fits { IfNone result ((1 ≤ unit) × (unit ≤ 128)) }
-    {
-        if self.lacks_unit(group, unit) {
-            return Some(BookRefusal::NoUnit);
-        }
-        if declared > MAX_ENERGY {
-            return Some(BookRefusal::Energy);
-        }
-        None
-    }
-
-    fn unit_refusal(&self, group: u32, unit: u32) -> Option<BookRefusal>
-        ensures value { result ≡ unit_rows (view_of self.now) group unit }
-        ensures fits { IfNone result ((1 ≤ unit) × (unit ≤ 128)) }
-    {
-        if self.lacks_unit(group, unit) {
-            return Some(BookRefusal::NoUnit);
-        }
-        None
-    }
+    commitments
+        .iter()
+        .filter(|commitment| commitment.plant == plant)
+        .map(|commitment| commitment.volume as u64)
+        .sum()
 }
 
 // What turns down one more row with a loss.
-fn added_refusal(count: usize, room: usize, loss: u32) -> Option<BookRefusal>
-    ensures value { result ≡ added_rows (min count room) room loss }
-    ensures fits { IfNone result (count < room) }
+fn check_added<T: Copy, const N: usize>(rows: &Rows<T, N>, loss: u32) -> Result<(), BookRefusal>
+    ensures value { result ≡ passes (added_rows (min rows.now.count N) N loss) }
+    ensures fits { OnOk result (rows.now.count < N) }
 {
-    if count >= room {
-        return Some(BookRefusal::Full);
-    }
+    rows.check_room()?;
     if loss > MAX_PERCENTAGE {
-        return Some(BookRefusal::Percentage);
+        return Err(BookRefusal::Percentage);
     }
-    None
+    Ok(())
 }
 
 impl Table {
+    // What a plant has sold so far.
+    pub(crate) fn sold(&self, plant: u32) -> u64
+        ensures { result ≡ (view_of self.now).sold plant }
+    {
+        sold_by(self.commitments.entered(), plant)
+    }
+
+    // What turns a new unit of a group down.
+    fn check_unit(&self, group: Group, unit: &UnitRecord) -> Result<(), BookRefusal>
+        ensures value { result ≡ passes (new_unit_rows (min self.now.plants.count 32) (min (units_of group self.now).count 128) unit.now) }
+        ensures fits { OnOk result ((units_of group self.now).count < 128) }
+    {
+        self.plants.place(unit.plant).ok_or(BookRefusal::NoPlant)?;
+        self.units(group).check_room()?;
+        if unit.internal > MAX_PERCENTAGE {
+            return Err(BookRefusal::Percentage);
+        }
+        if unit.declared > MAX_ENERGY || unit.seasonal.is_some_and(|energy| energy > MAX_ENERGY) {
+            return Err(BookRefusal::Energy);
+        }
+        if unit.feeds > 1 {
+            return Err(BookRefusal::OutsideSet);
+        }
+        Ok(())
+    }
+
+    fn check_commitment(&self, commitment: &Commitment) -> Result<(), BookRefusal>
+        ensures value { result ≡ passes (commit_rows (view_of self.now) commitment.now.plant commitment.now.buyer commitment.now.volume) }
+        ensures fits { OnOk result (self.now.commitments.count < 768) }
+    {
+        self.plants
+            .place(commitment.plant)
+            .ok_or(BookRefusal::NoPlant)?;
+        self.buyers
+            .place(commitment.buyer)
+            .ok_or(BookRefusal::NoBuyer)?;
+        self.commitments.check_room()?;
+        let volume = commitment.volume;
+        if volume == 0 || volume > MAX_VOLUME {
+            return Err(BookRefusal::Energy);
+        }
+        let sold = self.sold(commitment.plant);
+        if sold.saturating_add(volume as u64) > MAX_VOLUME as u64 {
+            return Err(BookRefusal::Commitments);
+        }
+        Ok(())
+    }
+
+    // Plants and buyers share the check and the adding; what is left is two lines for each.
     fn add_plant(&mut self, loss: u32) -> Result<u32, BookRefusal>
         ensures answer { result ≡ answer_of (Entry.AddPlant loss) self.old }
         ensures after { self.new ≡ after_entry (Entry.AddPlant loss) self.old }
     {
-        let count = self.plant_count;
-        if let Some(refusal) = added_refusal(count, PLANTS, loss) {
-            return Err(refusal);
-        }
-        self.plants[count] = Plant::new(loss);
-        self.plant_count = count + 1;
-        Ok(count as u32 + 1)
+        check_added(&self.plants, loss)?;
+        Ok(self.plants.add(Plant::new(loss)))
     }
 
-    fn add_competitive(
-        &mut self,
-        plant: u32,
-        declared: u32,
-        internal: u32,
-    ) -> Result<u32, BookRefusal>
-        ensures answer { result ≡ answer_of (Entry.AddCompetitive plant declared internal) self.old }
-        ensures after { self.new ≡ after_entry (Entry.AddCompetitive plant declared internal) self.old }
+    fn add_buyer(&mut self, loss: u32) -> Result<u32, BookRefusal>
+        ensures answer { result ≡ answer_of (Entry.AddBuyer loss) self.old }
+        ensures after { self.new ≡ after_entry (Entry.AddBuyer loss) self.old }
     {
-        if let Some(refusal) = self.competitive_refusal(plant, declared, internal) {
-            return Err(refusal);
-        }
-        Ok(
-            self.competitive
-                .add(UnitRecord::new(plant, declared, None, internal, 0)),
-        )
+        check_added(&self.buyers, loss)?;
+        Ok(self.buyers.add(Buyer::new(loss)))
+    }
+
+    fn add_unit(&mut self, group: Group, unit: UnitRecord) -> Result<u32, BookRefusal>
+        ensures answer { result ≡ unless (new_unit_rows (min self.old.plants.count 32) (min (units_of group self.old).count 128) unit) Err (Ok ((units_of group self.old).count + 1)) }
+        ensures after { self.new ≡ unless (new_unit_rows (min self.old.plants.count 32) (min (units_of group self.old).count 128) unit) (λ _. self.old) (with_units group (added unit (units_of group self.old)) self.old) }
+    {
+        self.check_unit(group, &unit)?;
+        Ok(self.units_mut(group).add(unit))
     }
 
     /// Adds a competitive unit that comes with the outcome of making its price rows, and hands these back with its number.
@@ -265,107 +167,48 @@ impl Table {
         ensures answer { result ≡ priced_answer plant declared internal rows self.old }
         ensures after { self.new ≡ after_priced plant declared internal rows self.old }
     {
-        if let Some(refusal) = self.competitive_refusal(plant, declared, internal) {
-            return Err(UnitRefusal::Book(refusal));
-        }
-        match rows {
-            Err(refusal) => Err(UnitRefusal::Rows(refusal)),
-            Ok(made) => {
-                let unit = UnitRecord::new(plant, declared, None, internal, 0);
-                Ok((self.competitive.add(unit), made))
-            }
-        }
-    }
-
-    fn add_guaranteed(
-        &mut self,
-        plant: u32,
-        declared: u32,
-        seasonal: u32,
-        internal: u32,
-        feeds: u32,
-    ) -> Result<u32, BookRefusal>
-        ensures answer { result ≡ answer_of (Entry.AddGuaranteed plant declared seasonal internal feeds) self.old }
-        ensures after { self.new ≡ after_entry (Entry.AddGuaranteed plant declared seasonal internal feeds) self.old }
-    {
-        if let Some(refusal) = self.guaranteed_refusal(plant, declared, seasonal, internal, feeds) {
-            return Err(refusal);
-        }
-        Ok(self.guaranteed.add(UnitRecord::new(plant, declared, Some(seasonal), internal, feeds)))
-    }
-
-    fn add_buyer(&mut self, loss: u32) -> Result<u32, BookRefusal>
-        ensures answer { result ≡ answer_of (Entry.AddBuyer loss) self.old }
-        ensures after { self.new ≡ after_entry (Entry.AddBuyer loss) self.old }
-    {
-        let count = self.buyer_count;
-        if let Some(refusal) = added_refusal(count, BUYERS, loss) {
-            return Err(refusal);
-        }
-        self.buyers[count] = Buyer::new(loss);
-        self.buyer_count = count + 1;
-        Ok(count as u32 + 1)
+        let unit = UnitRecord::competitive(plant, declared, internal);
+        self.check_unit(Group::Competitive, &unit)?;
+        let made = rows?;
+        Ok((self.competitive.add(unit), made))
     }
 
     fn commit(&mut self, plant: u32, buyer: u32, volume: u32) -> Result<u32, BookRefusal>
         ensures answer { result ≡ answer_of (Entry.Commit plant buyer volume) self.old }
         ensures after { self.new ≡ after_entry (Entry.Commit plant buyer volume) self.old }
     {
-        if let Some(refusal) = self.commit_refusal(plant, buyer, volume) {
-            return Err(refusal);
-        }
-        let count = self.commitment_count;
-        self.commitments[count] = Commitment {
+        let commitment = Commitment {
             plant,
             buyer,
             volume,
         };
-        self.commitment_count = count + 1;
-        Ok(count as u32 + 1)
+        self.check_commitment(&commitment)?;
+        Ok(self.commitments.add(commitment))
     }
 
     fn correct(&mut self, group: u32, unit: u32, declared: u32) -> Result<u32, BookRefusal>
         ensures answer { result ≡ answer_of (Entry.Correct group unit declared) self.old }
         ensures after { self.new ≡ after_entry (Entry.Correct group unit declared) self.old }
     {
-        if let Some(refusal) = self.correct_refusal(group, unit, declared) {
-            return Err(refusal);
+        let group = Group::try_from(group)?;
+        let place = self.units(group).place(unit).ok_or(BookRefusal::NoUnit)?;
+        if declared > MAX_ENERGY {
+            return Err(BookRefusal::Energy);
         }
-        if group == 1 {
-            self.competitive.correct(unit, declared);
-            return Ok(unit);
-        }
-        self.guaranteed.correct(unit, declared);
+        self.units_mut(group)
+            .change(place, |unit| unit.correct(declared));
         Ok(unit)
     }
 
-    fn put_aside(&mut self, group: u32, unit: u32) -> Result<u32, BookRefusal>
-        ensures answer { result ≡ answer_of (Entry.PutAside group unit) self.old }
-        ensures after { self.new ≡ after_entry (Entry.PutAside group unit) self.old }
+    // Puts a unit aside or takes it back.
+    fn move_aside(&mut self, group: u32, unit: u32, aside: bool) -> Result<u32, BookRefusal>
+        ensures answer { result ≡ unless (unit_rows (view_of self.old) group unit) Err (Ok unit) }
+        ensures after { self.new ≡ unless (unit_rows (view_of self.old) group unit) (λ _. self.old) (in_group group (changed (moved aside) unit) self.old) }
     {
-        if let Some(refusal) = self.unit_refusal(group, unit) {
-            return Err(refusal);
-        }
-        if group == 1 {
-            self.competitive.move_aside(unit, true);
-            return Ok(unit);
-        }
-        self.guaranteed.move_aside(unit, true);
-        Ok(unit)
-    }
-
-    fn take_back(&mut self, group: u32, unit: u32) -> Result<u32, BookRefusal>
-        ensures answer { result ≡ answer_of (Entry.TakeBack group unit) self.old }
-        ensures after { self.new ≡ after_entry (Entry.TakeBack group unit) self.old }
-    {
-        if let Some(refusal) = self.unit_refusal(group, unit) {
-            return Err(refusal);
-        }
-        if group == 1 {
-            self.competitive.move_aside(unit, false);
-            return Ok(unit);
-        }
-        self.guaranteed.move_aside(unit, false);
+        let group = Group::try_from(group)?;
+        let place = self.units(group).place(unit).ok_or(BookRefusal::NoUnit)?;
+        self.units_mut(group)
+            .change(place, |unit| unit.move_aside(aside));
         Ok(unit)
     }
 
@@ -380,21 +223,27 @@ impl Table {
                 plant,
                 declared,
                 internal,
-            } => self.add_competitive(plant, declared, internal),
+            } => {
+                let added = UnitRecord::competitive(plant, declared, internal);
+                self.add_unit(Group::Competitive, added)
+            }
             Entry::AddGuaranteed {
                 plant,
                 declared,
                 seasonal,
                 internal,
                 feeds,
-            } => { self.add_guaranteed(plant, declared, seasonal, internal, feeds) }
+            } => {
+                let added = UnitRecord::new(plant, declared, Some(seasonal), internal, feeds);
+                self.add_unit(Group::Guaranteed, added)
+            }
             Entry::Correct {
                 group,
                 unit,
                 declared,
             } => self.correct(group, unit, declared),
-            Entry::PutAside { group, unit } => self.put_aside(group, unit),
-            Entry::TakeBack { group, unit } => self.take_back(group, unit),
+            Entry::PutAside { group, unit } => self.move_aside(group, unit, true),
+            Entry::TakeBack { group, unit } => self.move_aside(group, unit, false),
             Entry::AddBuyer { loss } => self.add_buyer(loss),
             Entry::Commit {
                 plant,
@@ -408,9 +257,18 @@ impl Table {
     pub fn enter_all(&mut self, entries: &[Entry], answers: &mut [Result<u32, BookRefusal>])
         ensures after { self.new ≡ after_entries entries.now self.old }
         ensures answered { EntriesAnswered entries.now self.old answers.old answers.new }
+        ensures stands { (h : List Entry) → Stands h self.old → Stands (accepted h entries.now) self.new }
     {
-        for (i, entry) in entries.iter().enumerate() {
-            note(answers, i, self.enter(*entry));
-        }
+        self.make_all(entries, answers);
+    }
+}
+
+impl Call for Entry {
+    ghost answer = { answer_of };
+
+    ghost after = { after_entry };
+
+    fn make(self, table: &mut Table) -> Result<u32, BookRefusal> {
+        table.enter(self)
     }
 }

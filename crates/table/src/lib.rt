@@ -1,14 +1,18 @@
 // The book's table: what is entered, how it is closed, and what is read.
 #![tactic(auto)]
 
-mod answers;
+mod calls;
 mod closing;
 mod entries;
+mod groups;
+mod limits;
 mod readings;
 mod records;
 mod refusals;
+mod rows;
 
 pub use entries::Entry;
+pub use groups::Group;
 pub use readings::Reading;
 pub use records::{
     Adjustments, BUYERS, Buyer, BuyerFigures, COMMITMENTS, Commitment, GuaranteedReading,
@@ -16,3 +20,4 @@ pub use records::{
     UnitTable,
 };
 pub use refusals::{BookRefusal, UnitRefusal};
+pub use rows::Rows;

@@ -1,22 +1,19 @@
 // Readings of a closed hour: what turns one down, and what it changes.
-ghost use Rattle.std.specs.Prelude.{◌≡◌, ℕ, ◌<◌, ◌≤◌, min, length, IfNone};
+ghost use Rattle.std.specs.Prelude.{◌≡◌, ◌+◌, ◌<◌, min, List, length, Ok, Err};
+ghost use Rattle.table.specs.Effects.{unless, passes};
+ghost use Rattle.table.specs.Entries.{view_of};
+ghost use Rattle.table.specs.Groups.{units_of, with_units};
+ghost use Rattle.table.specs.Metered.{Metered, accepted_readings};
+ghost use Rattle.table.specs.Rows.{read_unit};
 ghost use Rattle.table.specs.Turns.{ReadingsAnswered};
-ghost use Rattle.table.specs.Readings.{greatest_energy, greatest_control, greatest_adjustment, outside, competitive_reading_rows, guaranteed_reading_rows, use_rows, reading_answer, after_reading, after_readings};
+ghost use Rattle.table.specs.Readings.{greatest_energy, greatest_control, greatest_adjustment, outside, measured_rows, competitive_reading_rows, reading_answer, after_reading, after_readings};
 
-use crate::answers::note;
-use crate::records::{Adjustments, BUYERS, GuaranteedReading, Table, UNITS, UnitReading};
+use crate::calls::Call;
+use crate::groups::Group;
+use crate::limits::{MAX_ADJUSTMENT, MAX_DAY, MAX_ENERGY, MAX_MINUTE, MAX_USE};
+use crate::records::{Adjustments, GuaranteedReading, Table, UnitReading};
 use crate::refusals::BookRefusal;
 use settlement::{CompetitiveEnergies, Control};
-
-const MAX_ENERGY: u32 = 2_000_000;
-
-const MAX_USE: u32 = 50_000_000;
-
-const MAX_ADJUSTMENT: u32 = 100_000_000;
-
-const MAX_DAY: u32 = 400;
-
-const MAX_MINUTE: u32 = 1_439;
 
 /// A reading of a closed hour, by the number of its unit or buyer.
 #[derive(Clone, Copy)]
@@ -56,90 +53,56 @@ fn greatest_control(c: &Control) -> u32
         .max(c.type8)
 }
 
-fn greatest_adjustment(a: &Adjustments) -> u32
-    ensures { result ≡ greatest_adjustment a.now }
-{
-    a.opportunity.max(a.planning).max(a.cooperation)
-}
-
 fn is_outside(c: &Control) -> bool
     ensures { result ≡ outside c.now }
 {
     c.day > MAX_DAY || c.minute > MAX_MINUTE
 }
 
-fn competitive_refusal(count: usize, unit: u32, reading: &UnitReading) -> Option<BookRefusal>
-    ensures value { result ≡ competitive_reading_rows (min count 128) unit reading.now }
-    ensures fits { IfNone result ((1 ≤ unit) × (unit ≤ 128)) }
-{
-    if unit == 0 || unit as usize > count.min(UNITS) {
-        return Some(BookRefusal::NoUnit);
+impl Adjustments {
+    fn greatest(&self) -> u32
+        ensures { result ≡ greatest_adjustment self.now }
+    {
+        self.opportunity.max(self.planning).max(self.cooperation)
     }
-    if greatest_energy(&reading.energies).max(greatest_control(&reading.control)) > MAX_ENERGY {
-        return Some(BookRefusal::Energy);
-    }
-    if greatest_adjustment(&reading.adjustments) > MAX_ADJUSTMENT {
-        return Some(BookRefusal::Price);
-    }
-    if reading.energies.asked > 1 || is_outside(&reading.control) {
-        return Some(BookRefusal::OutsideSet);
-    }
-    let offered = reading.energies.accepted as u64 + reading.energies.lost as u64;
-    if reading.energies.limited as u64 > offered {
-        return Some(BookRefusal::Limited);
-    }
-    None
 }
 
-fn guaranteed_refusal(count: usize, unit: u32, reading: &GuaranteedReading) -> Option<BookRefusal>
-    ensures value { result ≡ guaranteed_reading_rows (min count 128) unit reading.now }
-    ensures fits { IfNone result ((1 ≤ unit) × (unit ≤ 128)) }
-{
-    if unit == 0 || unit as usize > count.min(UNITS) {
-        return Some(BookRefusal::NoUnit);
+impl UnitReading {
+    // What turns the reading down, whichever unit it is of.
+    fn check(&self) -> Result<(), BookRefusal>
+        ensures { result ≡ passes (measured_rows self.now) }
+    {
+        if greatest_energy(&self.energies).max(greatest_control(&self.control)) > MAX_ENERGY {
+            return Err(BookRefusal::Energy);
+        }
+        if self.adjustments.greatest() > MAX_ADJUSTMENT {
+            return Err(BookRefusal::Price);
+        }
+        if self.energies.asked > 1 || is_outside(&self.control) {
+            return Err(BookRefusal::OutsideSet);
+        }
+        let offered = self.energies.accepted as u64 + self.energies.lost as u64;
+        if self.energies.limited as u64 > offered {
+            return Err(BookRefusal::Limited);
+        }
+        Ok(())
     }
-    if reading.net.max(greatest_control(&reading.control)) > MAX_ENERGY {
-        return Some(BookRefusal::Energy);
-    }
-    if is_outside(&reading.control) {
-        return Some(BookRefusal::OutsideSet);
-    }
-    None
-}
-
-fn use_refusal(count: usize, buyer: u32, used: u32) -> Option<BookRefusal>
-    ensures value { result ≡ use_rows (min count 64) buyer used }
-    ensures fits { IfNone result ((1 ≤ buyer) × (buyer ≤ 64)) }
-{
-    if buyer == 0 || buyer as usize > count.min(BUYERS) {
-        return Some(BookRefusal::NoBuyer);
-    }
-    if used > MAX_USE {
-        return Some(BookRefusal::Energy);
-    }
-    None
 }
 
 impl Table {
-    fn read_competitive(&mut self, unit: u32, reading: UnitReading) -> Result<u32, BookRefusal>
-        ensures answer { result ≡ reading_answer (Reading.Competitive unit reading) self.old }
-        ensures after { self.new ≡ after_reading (Reading.Competitive unit reading) self.old }
+    fn read_unit(
+        &mut self,
+        group: Group,
+        unit: u32,
+        reading: UnitReading,
+    ) -> Result<u32, BookRefusal>
+        ensures answer { result ≡ unless (competitive_reading_rows (min (units_of group self.old).count 128) unit reading) Err (Ok unit) }
+        ensures after { self.new ≡ unless (competitive_reading_rows (min (units_of group self.old).count 128) unit reading) (λ _. self.old) (with_units group (read_unit reading unit (units_of group self.old)) self.old) }
     {
-        if let Some(refusal) = competitive_refusal(self.competitive.count, unit, &reading) {
-            return Err(refusal);
-        }
-        self.competitive.read(unit, reading);
-        Ok(unit)
-    }
-
-    fn read_guaranteed(&mut self, unit: u32, reading: GuaranteedReading) -> Result<u32, BookRefusal>
-        ensures answer { result ≡ reading_answer (Reading.Guaranteed unit reading) self.old }
-        ensures after { self.new ≡ after_reading (Reading.Guaranteed unit reading) self.old }
-    {
-        if let Some(refusal) = guaranteed_refusal(self.guaranteed.count, unit, &reading) {
-            return Err(refusal);
-        }
-        self.guaranteed.read(unit, reading.kept());
+        let place = self.units(group).place(unit).ok_or(BookRefusal::NoUnit)?;
+        reading.check()?;
+        self.units_mut(group)
+            .change(place, |unit| unit.read(reading));
         Ok(unit)
     }
 
@@ -147,10 +110,11 @@ impl Table {
         ensures answer { result ≡ reading_answer (Reading.Use buyer used) self.old }
         ensures after { self.new ≡ after_reading (Reading.Use buyer used) self.old }
     {
-        if let Some(refusal) = use_refusal(self.buyer_count, buyer, used) {
-            return Err(refusal);
+        let place = self.buyers.place(buyer).ok_or(BookRefusal::NoBuyer)?;
+        if used > MAX_USE {
+            return Err(BookRefusal::Energy);
         }
-        self.buyers[buyer as usize - 1].read(used);
+        self.buyers.rows[place].read(used);
         Ok(buyer)
     }
 
@@ -160,18 +124,32 @@ impl Table {
         ensures after { self.new ≡ after_reading reading self.old }
     {
         match reading {
-            Reading::Competitive { unit, reading } => self.read_competitive(unit, reading),
-            Reading::Guaranteed { unit, reading } => self.read_guaranteed(unit, reading),
+            Reading::Competitive { unit, reading } => {
+                self.read_unit(Group::Competitive, unit, reading)
+            }
+            Reading::Guaranteed { unit, reading } => {
+                self.read_unit(Group::Guaranteed, unit, reading.kept())
+            }
             Reading::Use { buyer, used } => self.read_use(buyer, used),
         }
     }
+
     /// Takes readings in turn; the refused ones change nothing. Writes down what each answers, as far as there is room.
     pub fn read_all(&mut self, readings: &[Reading], answers: &mut [Result<u32, BookRefusal>])
         ensures after { self.new ≡ after_readings readings.now self.old }
         ensures answered { ReadingsAnswered readings.now self.old answers.old answers.new }
+        ensures metered { (rs : List Reading) → Metered rs self.old → Metered (accepted_readings (view_of self.old) rs readings.now) self.new }
     {
-        for (i, reading) in readings.iter().enumerate() {
-            note(answers, i, self.read(*reading));
-        }
+        self.make_all(readings, answers);
+    }
+}
+
+impl Call for Reading {
+    ghost answer = { reading_answer };
+
+    ghost after = { after_reading };
+
+    fn make(self, table: &mut Table) -> Result<u32, BookRefusal> {
+        table.read(self)
     }
 }

@@ -1,8 +1,11 @@
-// The records of the book's table. They are plain, and each array is made by repeating an empty record.
-ghost use Rattle.std.specs.Prelude.{◌≡◌, ◌+◌, ◌<◌, ◌≤◌, []};
+// The records of the book's table. They are plain, and each array is made by repeating an empty record: the engine has no heap.
+ghost use Rattle.std.specs.Prelude.{◌≡◌, ◌+◌, ◌<◌, ◌≤◌, ◌*◌, None, [], slice_index_or};
 ghost use Rattle.table.specs.History.{Stands, empty_table};
-ghost use Rattle.table.specs.Rows.{closed_figures, new_plant, new_unit, new_buyer, corrected, moved, added, changed, read_unit, kept_reading, read_use};
+ghost use Rattle.table.specs.Rows.{closed_figures, new_plant, new_unit, new_buyer, corrected, moved, changed, with_reading, kept_reading, read_use};
+ghost use Rattle.table.specs.declared.records.UnitRecord.{UnitRecord};
+ghost use Rattle.std.specs.Fn.{FnOnceReturnsAtMut};
 
+use crate::rows::Rows;
 use settlement::{CompetitiveEnergies, Control};
 
 pub const PLANTS: usize = 32;
@@ -14,7 +17,7 @@ pub const BUYERS: usize = 64;
 pub const COMMITMENTS: usize = 768;
 
 /// What settling finds for a plant.
-#[derive(Clone, Copy)]
+#[derive(Clone, Copy, Debug, Default, PartialEq)]
 pub struct PlantFigures {
     pub committed: u32,
     pub allocated: u32,
@@ -27,7 +30,7 @@ pub struct PlantFigures {
 }
 
 /// What closing and settling find for a unit.
-#[derive(Clone, Copy)]
+#[derive(Clone, Copy, Debug, Default, PartialEq)]
 pub struct UnitFigures {
     pub allocated: u32,
     pub billed: u32,
@@ -35,14 +38,14 @@ pub struct UnitFigures {
 }
 
 /// What settling finds for a buyer.
-#[derive(Clone, Copy)]
+#[derive(Clone, Copy, Debug, Default, PartialEq)]
 pub struct BuyerFigures {
     pub share: u64,
     pub net: i64,
 }
 
 /// What settling finds for the hour.
-#[derive(Clone, Copy)]
+#[derive(Clone, Copy, Debug, Default, PartialEq)]
 pub struct HourFigures {
     /// The energy billed to all units.
     pub billed: u64,
@@ -53,7 +56,7 @@ pub struct HourFigures {
 }
 
 /// Money in rial beside a unit's payment.
-#[derive(Clone, Copy)]
+#[derive(Clone, Copy, Default)]
 pub struct Adjustments {
     pub opportunity: u32,
     pub planning: u32,
@@ -61,20 +64,20 @@ pub struct Adjustments {
 }
 
 /// A unit's reading. A guaranteed unit's is kept with the other energies and the adjustments 0.
-#[derive(Clone, Copy)]
+#[derive(Clone, Copy, Default)]
 pub struct UnitReading {
     pub energies: CompetitiveEnergies,
     pub adjustments: Adjustments,
     pub control: Control,
 }
 
-#[derive(Clone, Copy)]
+#[derive(Clone, Copy, Default)]
 pub struct GuaranteedReading {
     pub net: u32,
     pub control: Control,
 }
 
-#[derive(Clone, Copy)]
+#[derive(Clone, Copy, Default)]
 pub struct Plant {
     /// Its loss to the reference point.
     pub loss: u32,
@@ -82,7 +85,7 @@ pub struct Plant {
 }
 
 /// A unit of either group.
-#[derive(Clone, Copy)]
+#[derive(Clone, Copy, Default)]
 pub struct UnitRecord {
     /// Its plant's number, from 1.
     pub plant: u32,
@@ -92,13 +95,15 @@ pub struct UnitRecord {
     pub seasonal: Option<u32>,
     /// Internal consumption.
     pub internal: u32,
-    /// 1 where it feeds the distribution grid.
+    /// 1 where it feeds the distribution grid. A number, as an entry gives it and payment takes it.
     pub feeds: u32,
     pub aside: bool,
+    /// Its last accepted reading, if there is one.
+    pub reading: Option<UnitReading>,
     pub figures: UnitFigures,
 }
 
-#[derive(Clone, Copy)]
+#[derive(Clone, Copy, Default)]
 pub struct Buyer {
     pub loss: u32,
     /// Its use, if it was read.
@@ -107,7 +112,7 @@ pub struct Buyer {
 }
 
 /// Energy sold ahead by a plant to a buyer.
-#[derive(Clone, Copy)]
+#[derive(Clone, Copy, Default)]
 pub struct Commitment {
     pub plant: u32,
     pub buyer: u32,
@@ -115,15 +120,6 @@ pub struct Commitment {
 }
 
 impl PlantFigures {
-    pub const NONE: PlantFigures = PlantFigures {
-        committed: 0,
-        allocated: 0,
-        run: 0,
-        support: 0,
-        rate: 0,
-        cost: 0,
-    };
-
     // The figures of closing; what is not supported is allocated.
     pub(crate) fn closed(committed: u32, run: u32) -> PlantFigures
         ensures { result ≡ closed_figures committed run }
@@ -133,31 +129,9 @@ impl PlantFigures {
             committed,
             allocated,
             run,
-            support: 0,
-            rate: 0,
-            cost: 0,
+            ..PlantFigures::default()
         }
     }
-}
-
-impl UnitFigures {
-    pub const NONE: UnitFigures = UnitFigures {
-        allocated: 0,
-        billed: 0,
-        payment: 0,
-    };
-}
-
-impl BuyerFigures {
-    pub const NONE: BuyerFigures = BuyerFigures { share: 0, net: 0 };
-}
-
-impl HourFigures {
-    pub const NONE: HourFigures = HourFigures {
-        billed: 0,
-        committed: 0,
-        unassigned: 0,
-    };
 }
 
 impl GuaranteedReading {
@@ -168,50 +142,27 @@ impl GuaranteedReading {
         UnitReading {
             energies: CompetitiveEnergies {
                 net: self.net,
-                accepted: 0,
-                lost: 0,
-                limited: 0,
-                executed: 0,
-                asked: 0,
+                ..CompetitiveEnergies::default()
             },
-            adjustments: Adjustments {
-                opportunity: 0,
-                planning: 0,
-                cooperation: 0,
-            },
+            adjustments: Adjustments::default(),
             control: self.control,
         }
     }
 }
 
 impl Plant {
-    const EMPTY: Plant = Plant {
-        loss: 0,
-        figures: PlantFigures::NONE,
-    };
-
     /// A plant without figures.
     pub(crate) fn new(loss: u32) -> Plant
         ensures { result ≡ new_plant loss }
     {
         Plant {
             loss,
-            figures: PlantFigures::NONE,
+            ..Plant::default()
         }
     }
 }
 
 impl UnitRecord {
-    const EMPTY: UnitRecord = UnitRecord {
-        plant: 0,
-        declared: 0,
-        seasonal: None,
-        internal: 0,
-        feeds: 0,
-        aside: false,
-        figures: UnitFigures::NONE,
-    };
-
     /// A unit that is not aside.
     pub(crate) fn new(
         plant: u32,
@@ -228,77 +179,56 @@ impl UnitRecord {
             seasonal,
             internal,
             feeds,
-            aside: false,
-            figures: UnitFigures::NONE,
+            ..UnitRecord::default()
         }
     }
 
+    /// A competitive unit that is not aside.
+    pub(crate) fn competitive(plant: u32, declared: u32, internal: u32) -> UnitRecord
+        ensures { result ≡ new_unit plant declared None internal 0 }
+    {
+        UnitRecord::new(plant, declared, None, internal, 0)
+    }
+
     // The seasonal energy stays, and with it a guaranteed unit's limit.
-    fn correct(&mut self, declared: u32)
+    pub(crate) fn correct(&mut self, declared: u32)
         ensures { self.new ≡ corrected declared self.old }
     {
         self.declared = declared;
     }
 
-    fn move_aside(&mut self, aside: bool)
+    pub(crate) fn move_aside(&mut self, aside: bool)
         ensures { self.new ≡ moved aside self.old }
     {
         self.aside = aside;
     }
+
+    pub(crate) fn read(&mut self, reading: UnitReading)
+        ensures { self.new ≡ with_reading reading self.old }
+    {
+        self.reading = Some(reading);
+    }
 }
 
 impl UnitTable {
-    pub(crate) fn add(&mut self, unit: UnitRecord) -> u32
-        requires { self.old.count < 128 }
-        ensures number { result ≡ self.old.count + 1 }
-        ensures after { self.new ≡ added unit self.old }
+    /// Lends the record of the unit at a place to a function that changes it: that record and no other.
+    pub(crate) fn change<F: FnOnce(&mut UnitRecord)>(&mut self, place: usize, change: F)
+        requires place { place < 128 }
+        requires callable { F.IsAlwaysCallable change }
+        ensures { (u : UnitRecord) × FnOnceReturnsAtMut F.FnOnce change (slice_index_or self.old.rows place (new_unit 0 0 None 0 0)) tt u × (self.new ≡ changed (λ _. u) (place + 1) self.old) }
     {
-        let count = self.count;
-        self.units[count] = unit;
-        self.count = count + 1;
-        count as u32 + 1
-    }
-
-    /// Changes the declared energy of one unit, and nothing else.
-    pub(crate) fn correct(&mut self, unit: u32, declared: u32)
-        requires { (1 ≤ unit) × (unit ≤ 128) }
-        ensures { self.new ≡ changed (corrected declared) unit self.old }
-    {
-        self.units[unit as usize - 1].correct(declared);
-    }
-
-    /// Puts one unit aside or takes it back, and changes nothing else.
-    pub(crate) fn move_aside(&mut self, unit: u32, aside: bool)
-        requires { (1 ≤ unit) × (unit ≤ 128) }
-        ensures { self.new ≡ changed (moved aside) unit self.old }
-    {
-        self.units[unit as usize - 1].move_aside(aside);
-    }
-
-    /// Keeps the reading of one unit, and changes nothing else.
-    pub(crate) fn read(&mut self, unit: u32, reading: UnitReading)
-        requires { (1 ≤ unit) × (unit ≤ 128) }
-        ensures { self.new ≡ read_unit reading unit self.old }
-    {
-        self.readings[unit as usize - 1] = Some(reading);
+        change(&mut self.rows[place]);
     }
 }
 
 impl Buyer {
-    const EMPTY: Buyer = Buyer {
-        loss: 0,
-        used: None,
-        figures: BuyerFigures::NONE,
-    };
-
     /// A buyer whose use was not read.
     pub(crate) fn new(loss: u32) -> Buyer
         ensures { result ≡ new_buyer loss }
     {
         Buyer {
             loss,
-            used: None,
-            figures: BuyerFigures::NONE,
+            ..Buyer::default()
         }
     }
 
@@ -309,34 +239,17 @@ impl Buyer {
     }
 }
 
-impl Commitment {
-    const EMPTY: Commitment = Commitment {
-        plant: 0,
-        buyer: 0,
-        volume: 0,
-    };
-}
-
 /// The units of one group, over all plants.
-#[derive(Clone, Copy)]
-pub struct UnitTable {
-    pub count: usize,
-    pub units: [UnitRecord; UNITS],
-    /// The last accepted reading of each unit, if there is one.
-    pub readings: [Option<UnitReading>; UNITS],
-}
+pub type UnitTable = Rows<UnitRecord, UNITS>;
 
-/// The rows of each kind, with how many are entered.
+/// The rows of each kind.
 #[derive(Drop)]
 pub struct Table {
-    pub plant_count: usize,
-    pub plants: [Plant; PLANTS],
+    pub plants: Rows<Plant, PLANTS>,
     pub competitive: UnitTable,
     pub guaranteed: UnitTable,
-    pub buyer_count: usize,
-    pub buyers: [Buyer; BUYERS],
-    pub commitment_count: usize,
-    pub commitments: [Commitment; COMMITMENTS],
+    pub buyers: Rows<Buyer, BUYERS>,
+    pub commitments: Rows<Commitment, COMMITMENTS>,
     pub figures: HourFigures,
 }
 
@@ -346,21 +259,14 @@ impl Table {
         ensures value { result ≡ empty_table }
         ensures stands { Stands [] result }
     {
-        let units = UnitTable {
-            count: 0,
-            units: [UnitRecord::EMPTY; UNITS],
-            readings: [None; UNITS],
-        };
+        let units = Rows::empty([UnitRecord::default(); UNITS]);
         Table {
-            plant_count: 0,
-            plants: [Plant::EMPTY; PLANTS],
+            plants: Rows::empty([Plant::default(); PLANTS]),
             competitive: units,
             guaranteed: units,
-            buyer_count: 0,
-            buyers: [Buyer::EMPTY; BUYERS],
-            commitment_count: 0,
-            commitments: [Commitment::EMPTY; COMMITMENTS],
-            figures: HourFigures::NONE,
+            buyers: Rows::empty([Buyer::default(); BUYERS]),
+            commitments: Rows::empty([Commitment::default(); COMMITMENTS]),
+            figures: HourFigures::default(),
         }
     }
 }

@@ -1,30 +1,33 @@
 // Why a call on the book is turned down.
-ghost use Rattle.std.specs.Prelude.{◌≡◌};
-ghost use Rattle.table.specs.Refusals.{refusal_number, unit_refusal_number};
+ghost use Rattle.std.specs.Prelude.{◌≡◌, Some};
+ghost use Rattle.table.specs.Refusals.{refusal_number, unit_refusal_number, refusal_text, unit_refusal_text};
+ghost use Rattle.table.specs.declared.refusals.UnitRefusal.TheVariants.{Book, Rows};
 
 use curves::CurveRefusal;
+use std::error::Error;
+use std::fmt;
 
 /// A refusal of the book.
-#[derive(Clone, Copy)]
+#[derive(Clone, Copy, Debug, PartialEq)]
 pub enum BookRefusal {
-    NoPlant,
+    NoPlant = 1,
     /// No such unit, or no such group.
-    NoUnit,
-    NoBuyer,
+    NoUnit = 2,
+    NoBuyer = 3,
     /// The table for the entry is full.
-    Full,
+    Full = 4,
     /// A percentage is over 2,000.
-    Percentage,
+    Percentage = 5,
     /// A unit's energy, a buyer's use or a volume is outside its limits.
-    Energy,
+    Energy = 6,
     /// The plant's commitments would pass 20,000,000.
-    Commitments,
+    Commitments = 7,
     /// A price, a rate, a coefficient or an adjustment is over its limit.
-    Price,
+    Price = 9,
     /// A mark, a maintenance day or an exit minute is outside its set.
-    OutsideSet,
+    OutsideSet = 10,
     /// More energy was made under a technical limit than was accepted and lost.
-    Limited,
+    Limited = 11,
 }
 
 impl BookRefusal {
@@ -32,23 +35,12 @@ impl BookRefusal {
     pub fn number(self) -> u32
         ensures { result ≡ refusal_number self }
     {
-        match self {
-            BookRefusal::NoPlant => 1,
-            BookRefusal::NoUnit => 2,
-            BookRefusal::NoBuyer => 3,
-            BookRefusal::Full => 4,
-            BookRefusal::Percentage => 5,
-            BookRefusal::Energy => 6,
-            BookRefusal::Commitments => 7,
-            BookRefusal::Price => 9,
-            BookRefusal::OutsideSet => 10,
-            BookRefusal::Limited => 11,
-        }
+        self as u32
     }
 }
 
 /// Why a unit with its price rows is turned down: by the book, or since its rows could not be made.
-#[derive(Clone, Copy)]
+#[derive(Clone, Copy, Debug, PartialEq)]
 pub enum UnitRefusal {
     Book(BookRefusal),
     Rows(CurveRefusal),
@@ -65,3 +57,44 @@ impl UnitRefusal {
         }
     }
 }
+
+// Conversions and texts are written out: a derive promises neither text nor variant.
+impl From<BookRefusal> for UnitRefusal {
+    ghost from_gives = { λ book result. result ≡ Book book };
+
+    fn from(book: BookRefusal) -> UnitRefusal {
+        UnitRefusal::Book(book)
+    }
+}
+
+impl From<CurveRefusal> for UnitRefusal {
+    ghost from_gives = { λ rows result. result ≡ Rows rows };
+
+    fn from(rows: CurveRefusal) -> UnitRefusal {
+        UnitRefusal::Rows(rows)
+    }
+}
+
+impl fmt::Display for BookRefusal {
+    ghost output = { λ refusal. Some (refusal_text (refusal_number refusal)) };
+
+    fn fmt<W: fmt::Write>(&self, f: &mut fmt::Formatter<W>) -> fmt::Result {
+        let number = self.number();
+        write!(f, "refused with {number}")
+    }
+}
+
+impl Error for BookRefusal {}
+
+impl fmt::Display for UnitRefusal {
+    ghost output = { λ refusal. Some (unit_refusal_text refusal) };
+
+    fn fmt<W: fmt::Write>(&self, f: &mut fmt::Formatter<W>) -> fmt::Result {
+        match self {
+            UnitRefusal::Book(refusal) => write!(f, "{refusal}"),
+            UnitRefusal::Rows(refusal) => write!(f, "{refusal}"),
+        }
+    }
+}
+
+impl Error for UnitRefusal {}

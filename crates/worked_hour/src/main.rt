@@ -4,10 +4,8 @@
 mod examples;
 mod worked;
 
-use std::io;
-
-fn main(rt: HostRuntime) -> io::Result<()> {
+fn main(rt: HostRuntime) -> anyhow::Result<()> {
     examples::worked_examples();
-    let text = worked::text(rt.alloc())?;
-    rt.print(text)
+    rt.print(worked::worked_figures()?)?;
+    Ok(())
 }

@@ -1,11 +1,11 @@
 // One plant with one unit sells 50 kWh to one buyer.
 use book::{
-    Adjustments, Book, BookRefusal, BuyerFigures, Calls, Entry, Header, HourFigures, PlantFigures,
-    PriceRow, Reading, SettledHour, UnitFigures, UnitReading, run_settled,
+    Book, BookRefusal, BuyerFigures, Calls, Entry, Header, HourFigures, PlantFigures, PriceRow,
+    Reading, SettledHour, UnitFigures, UnitReading, run_settled,
 };
 use curves::{CurveRefusal, Step, SteppedCost, SteppedOffer, Tariff};
 use settlement::{CompetitiveEnergies, Control};
-use std::alloc::{AllocError, Global};
+use std::fmt;
 
 const ENTRIES: [Entry; 4] = [
     Entry::AddPlant { loss: 0 },
@@ -22,94 +22,104 @@ const ENTRIES: [Entry; 4] = [
     },
 ];
 
-const READING: UnitReading = UnitReading {
-    energies: CompetitiveEnergies {
-        net: 130,
-        accepted: 110,
-        lost: 0,
-        limited: 20,
-        executed: 0,
-        asked: 0,
-    },
-    adjustments: Adjustments {
-        opportunity: 0,
-        planning: 0,
-        cooperation: 0,
-    },
-    control: Control {
-        p_act: 30,
-        type2: 0,
-        type3: 0,
-        type5: 0,
-        type6: 0,
-        type8: 0,
-        day: 0,
-        minute: 0,
-    },
-};
+const NO_OFFERS: [Tariff; 0] = [];
 
 /// What is printed of the hour.
-#[derive(Drop)]
-struct Figures {
+#[derive(Clone, Copy)]
+pub struct Figures {
     unit: UnitFigures,
     plant: PlantFigures,
     buyer: BuyerFigures,
     hour: HourFigures,
 }
 
-fn offer() -> Result<SteppedOffer, CurveRefusal> {
-    SteppedOffer::new(&[
-        Step {
-            width: 100,
-            price: 300,
-        },
-        Step {
-            width: 100,
-            price: 500,
-        },
-    ])
+// The hour cases print these fields too, but after other words and with the number of each row.
+impl fmt::Display for Figures {
+    fn fmt<W: fmt::Write>(&self, f: &mut fmt::Formatter<W>) -> fmt::Result {
+        let Figures {
+            unit: u,
+            plant: p,
+            buyer: b,
+            hour: h,
+        } = self;
+        writeln!(f, "unit {} {} {}", u.allocated, u.billed, u.payment)?;
+        writeln!(
+            f,
+            "plant {} {} {} {} {} {}",
+            p.committed, p.allocated, p.run, p.support, p.rate, p.cost
+        )?;
+        writeln!(f, "buyer {} {}", b.share, b.net)?;
+        writeln!(f, "hour {} {} {}", h.billed, h.committed, h.unassigned)
+    }
 }
 
-fn cost() -> Result<SteppedCost, CurveRefusal> {
-    SteppedCost::new(&[Step {
+fn readings() -> [Reading; 2] {
+    let energies = CompetitiveEnergies {
+        net: 130,
+        accepted: 110,
+        limited: 20,
+        ..CompetitiveEnergies::default()
+    };
+    let control = Control {
+        p_act: 30,
+        ..Control::default()
+    };
+    let reading = UnitReading {
+        energies,
+        control,
+        ..UnitReading::default()
+    };
+    [
+        Reading::Competitive { unit: 1, reading },
+        Reading::Use {
+            buyer: 1,
+            used: 200,
+        },
+    ]
+}
+
+// The unit's offer and its cost curve.
+fn prices() -> Result<PriceRow<SteppedOffer, SteppedCost>, CurveRefusal> {
+    let first = Step {
+        width: 100,
+        price: 300,
+    };
+    let second = Step {
+        width: 100,
+        price: 500,
+    };
+    let cost = Step {
         width: 100,
         price: 350,
-    }])
+    };
+    Ok(PriceRow {
+        offer: SteppedOffer::new(&[first, second])?,
+        cost: SteppedCost::new(&[cost])?,
+    })
 }
 
 // Opens the hour, makes its calls and settles it.
 fn settled<'b>(
     book: &'b mut Book,
     header: Header,
-    offer: SteppedOffer,
-    cost: SteppedCost,
+    prices: PriceRow<SteppedOffer, SteppedCost>,
 ) -> SettledHour<'b> {
-    let none: [Tariff; 0] = [];
     let calls = Calls {
         entries: &ENTRIES,
-        offers: &[offer],
-        guaranteed: &none,
-        readings: &[
-            Reading::Competitive {
-                unit: 1,
-                reading: READING,
-            },
-            Reading::Use {
-                buyer: 1,
-                used: 200,
-            },
-        ],
+        offers: &[prices.offer],
+        guaranteed: &NO_OFFERS,
+        readings: &readings(),
     };
-    let mut entry_answers = [Ok(0), Ok(0), Ok(0), Ok(0)];
-    let mut reading_answers = [Ok(0), Ok(0)];
+    let mut entry_answers = [Ok(0); 4];
+    let mut reading_answers = [Ok(0); 2];
     run_settled(
         book,
         header,
         &calls,
         &mut entry_answers,
         &mut reading_answers,
-        &[PriceRow { offer, cost }],
-        &none,
+        &[prices],
+        &NO_OFFERS,
     )
 }
 
@@ -122,34 +132,12 @@ fn figures_of(hour: &SettledHour) -> Result<Figures, BookRefusal> {
     })
 }
 
-// The figures as lines of text.
-fn lines(heap: Global, f: &Figures) -> Result<String, AllocError> {
-    let u = f.unit;
-    let p = f.plant;
-    let b = f.buyer;
-    let h = f.hour;
-    let unit = format!(in heap; "unit {} {} {}\n", u.allocated, u.billed, u.payment)?;
-    let plant = format!(in heap;
-        "plant {} {} {} {} {} {}\n",
-        p.committed, p.allocated, p.run, p.support, p.rate, p.cost
-    )?;
-    let buyer = format!(in heap; "buyer {} {}\n", b.share, b.net)?;
-    let hour = format!(in heap; "hour {} {} {}\n", h.billed, h.committed, h.unassigned)?;
-    format!(in heap; "{unit}{plant}{buyer}{hour}")
-}
-
-/// The text of the worked hour.
-pub(crate) fn text(heap: Global) -> Result<String, AllocError> {
-    let (Ok(header), Ok(offer), Ok(cost)) = (Header::new(1_000, 10_000, 200, 0, 0), offer(), cost())
-    else {
-        return format!(in heap; "refused\n");
-    };
+/// The figures of the worked hour.
+pub(crate) fn worked_figures() -> anyhow::Result<Figures> {
+    let header = Header::new(1_000, 10_000, 200, 0, 0)?;
     let mut book = Book::new();
-    let hour = settled(&mut book, header, offer, cost);
-    let text = match figures_of(&hour) {
-        Ok(figures) => lines(heap, &figures),
-        Err(refusal) => format!(in heap; "refused {}\n", refusal.number()),
-    };
+    let hour = settled(&mut book, header, prices()?);
+    let figures = figures_of(&hour);
     hour.release();
-    text
+    Ok(figures?)
 }

@@ -1,6 +1,8 @@
-use Rattle.std.proofs.Common.{◌≡◌, ℕ, ◌-◌, ◌<◌, min, length, sym, ap, ◌∙◌, subst, arith}
-use Rattle.allocation.specs.Groups.{units_of, amount_at}
-use Rattle.allocation.specs.Laws.{Split}
+use Rattle.std.proofs.Common.{rules, ◌≡◌, ℕ, ◌-◌, ◌<◌, ◌++◌, length, get_or, refl, ap, ⊎_elim, ◌∙◌, arith}
+use Rattle.std.proofs.lemmas.List.{get_or_append_left, get_or-append_right, get_or_past}
+use Rattle.std.proofs.lemmas.Bool.{cases_lt}
+use Rattle.allocation.specs.Groups.{sum_of, group_of, amount_at}
+use Rattle.allocation.specs.Units.{units_in}
 use Rattle.allocation.proofs.Sums.{sum_cong}
 use Rattle.allocation.proofs.Fills.{supply_below, filled_merit, merit_same}
 use Rattle.allocation.proofs.Orders.{split_of}
@@ -9,23 +11,26 @@ use Rattle.allocation.proofs.fill.split.Goals as goal
 
 pub overflow_sub-rest : goal.overflow_sub-rest
 overflow_sub-rest g c =
-    let group = units_of g.O.Curve.prices c.args.offers.now c.args.limits.now c.min-n.result in
-    omega (arith, c.supply_below.ensures, supply_below group c.min-n.result c.args.share _ c.marginal_price-price.ensures)
+    let units = units_in g.O.Curve.prices c.new-units.result in
+    omega (arith, c.supply_below.ensures, supply_below units units.units c.args.share _ c.marginal_price-price.ensures)
 
 pub returns : goal.returns
 returns g c =
-    let units = units_of g.O.Curve.prices c.args.offers.now c.args.limits.now in
-    let n = c.min-n.result in
+    let group = group_of g.O.Curve.prices c.args.offers.now c.args.limits.now (length c.args.amounts.now) in
+    let units = units_in g.O.Curve.prices c.new-units.result in
     let share = c.args.share in
-    let price = c.marginal_price-price.result in
-    let row = amount_at c.fill-uncovered.new.amounts in
-    let last = amount_at c.clear_from.new.amounts in
-    let left = c.fill-uncovered.result in
-    let found = filled_merit (units n) share price _ left row
-    (price_bounded g.O.Curve.prices 10000000 g.O.Curve.bounded c.args.offers.now) c.marginal_price-price.ensures
-    (omega (arith, c.supply_below.ensures)) c.fill-uncovered.ensures in
-    let kept : (i : ℕ) → i < n → last i ≡ row i = λ i lt. c.clear_from.ensures.before i (omega arith) in
-    let split = split_of (units n) share last left (merit_same (units n) share row last kept found.0)
-    (found.1 ∙ ap (λ t. share - t) (sym (sum_cong n last row kept))) (λ i from. c.clear_from.ensures.after i (omega arith)) in
-    let whole : n ≡ min (min (min (length c.args.offers.now) (length c.args.limits.now)) 128) (length c.args.amounts.now) = omega arith in
-    subst (λ m. Split (units m) share last left) whole split
+    let taken = c.fill-2.new.amounts in
+    let row = amount_at (taken ++ c.fill.new.self) in
+    let left = c.fill-2.result in
+    let long : length taken ≡ units.units = omega (arith, c.split_at_mut-taken.ensures.front_len, c.len.ensures, c.fill-2.auto.amounts) in
+    let found = filled_merit units share c.marginal_price-price.result _ left (amount_at taken)
+    (price_bounded g.O.Curve.prices 10000000 g.met.O.Curve.bounded c.new-units.result.offers.now) c.marginal_price-price.ensures
+    (omega (arith, c.supply_below.ensures)) c.fill-2.ensures in
+    let kept : (i : ℕ) → i < group.units → row i ≡ amount_at taken i = λ i lt. get_or_append_left taken c.fill.new.self 0 i (omega (arith, long, c.new-units.ensures.number)) in
+    let cleared : (i : ℕ) → get_or c.fill.new.self i 0 ≡ 0 = λ i. ⊎_elim
+    (λ (lt : i < length c.fill.new.self). search rules)
+    (λ past. get_or_past c.fill.new.self i 0 past)
+    (cases_lt i (length c.fill.new.self)) in
+    split_of group share row left (merit_same group units share (amount_at taken) row c.new-units.ensures kept found.0)
+    (omega (arith, found.1, sum_cong group.units row (amount_at taken) kept, ap (λ n. sum_of n (amount_at taken)) c.new-units.ensures.number))
+    (λ i from. get_or-append_right taken c.fill.new.self (length taken) i 0 refl (omega (arith, long, c.new-units.ensures.number)) ∙ cleared (i - length taken))

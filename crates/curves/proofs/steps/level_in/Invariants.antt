@@ -5,4 +5,4 @@ use Rattle.curves.proofs.steps.level_in.Given as goal
 abbrev pub invariant-loop-step : goal.invariant-loop-step
 invariant-loop-step l =
     (l.start < l.at) × (l.at ≤ 2000000)
-    × ((m : ℕ) → l.start < m → rest l.reading 0 l.steps m ≡ rest l.reading l.price (drop l.step-index l.steps) (m - l.start))
+    × ((m : ℕ) → l.start < m → rest l.rises 0 l.steps m ≡ rest l.rises l.price (drop l.step-index l.steps) (m - l.start))

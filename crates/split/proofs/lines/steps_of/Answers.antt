@@ -1,10 +1,12 @@
-use Rattle.std.proofs.Common.{refl, rules, true-eqb}
-use Rattle.split.proofs.Numbers.{steps_more, steps_all}
+use Rattle.std.proofs.Common.{◌≡◌, ◌*◌, ◌/◌, ◌%◌, length, ap, ◌∙◌, map, get_or, arith}
+use Rattle.split.specs.Lines.{numbers_of}
+use Rattle.split.proofs.Numbers.{paired}
 use Rattle.split.proofs.lines.steps_of.Goals as goal
 
-pub loop-rest-preserved : goal.loop-rest-preserved
-loop-rest-preserved c =
-    steps_more _ _ _ c.loop-rest.rest.now _ (search rules) c.in_ok-push.ensures.items refl refl c.loop-rest.invariant
-
-pub returns-then-is_empty : goal.returns-then-is_empty
-returns-then-is_empty c = steps_all _ _ _ (true-eqb _ 0 c.if-is_empty.ensures) c.loop-rest.invariant
+pub returns : goal.returns
+returns c =
+    let numbers = c.args.numbers.now in
+    let none : length numbers % 2 ≡ 0 = omega (arith, c.as_chunks.ensures.back_len) in
+    let whole : length numbers ≡ length numbers / 2 * 2 = omega (arith, none) in
+    ap numbers_of (c.in_ok-steps_of_pairs.ensures ∙ ap (map (λ pair. record { width = get_or pair 0 0; price = get_or pair 1 0 })) c.as_chunks.ensures.front)
+    ∙ paired (length numbers / 2) numbers whole

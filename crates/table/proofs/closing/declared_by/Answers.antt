@@ -1,19 +1,18 @@
-use Rattle.std.proofs.Common.{None, sum_by, ap, ◌∙◌, arith}
-use Rattle.std.proofs.lemmas.List.{take_all}
-use Rattle.std.proofs.lemmas.List.Sums.{sum_by_more}
-use Rattle.table.specs.Closing.{declared_in}
-use Rattle.table.specs.Rows.{new_unit}
+use Rattle.std.proofs.Common.{rules, filter, ◌∙◌}
+use borrow.Author.Tests.{tests}
+use Rattle.std.proofs.lemmas.Iterator.{YieldsList-from_slice, YieldsList-from_map}
+use Rattle.std.proofs.lemmas.Iterator.Consumers.{YieldsList-at, YieldsList-from_filter, sum_by_from_yields_List}
+use Rattle.curves.specs.Limits.{read_energy}
+use Rattle.table.specs.Closing.{counts}
+use Rattle.table.specs.declared.records.UnitRecord.{UnitRecord}
+use Rattle.table.proofs.Sold.{sum_filter}
 use Rattle.table.proofs.closing.declared_by.Goals as goal
 
-pub loop-unit-preserved : goal.loop-unit-preserved
-loop-unit-preserved c =
-    let more = sum_by_more (declared_in c.args.plant) c.args.units.now c.loop-unit.unit-index (new_unit 0 0 None 0 0) c.loop-unit-test.true in (
-      omega (arith, more, c.loop-unit.invariant.0, c.declared_in-sum.ensures.value),
-      omega (arith, c.loop-unit.invariant.1, c.declared_in-sum.ensures.bound),
-    )
-
 pub returns : goal.returns
-returns c = record {
-  value = c.loop-unit.invariant.0 ∙ ap (sum_by (declared_in c.args.plant)) (take_all c.loop-unit.unit-index c.args.units.now c.loop-unit-test.false);
-  bound = omega (arith, c.loop-unit.invariant.1);
-}
+returns c =
+    let units = c.args.units.now in
+    let counted = λ (u : UnitRecord). counts c.args.plant u in
+    let energy = λ (u : UnitRecord). read_energy u.declared in
+    sum_by_from_yields_List energy (filter counted units) c.map.result c.sum.result c.sum.ensures.ran
+    (YieldsList-from_map _ energy (YieldsList-at c.map.ensures.source (YieldsList-from_filter _ counted (YieldsList-at c.filter.ensures.source (YieldsList-from_slice units (cc))) c.filter.ensures.closure (λ x r q k. search (rules, tests)))) c.map.ensures.closure (λ x r q k. search (rules, tests)))
+    ∙ sum_filter energy counted units

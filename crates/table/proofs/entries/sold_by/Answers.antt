@@ -1,27 +1,16 @@
-use Rattle.std.proofs.Common.{arith}
+use Rattle.std.proofs.Common.{rules, eqb, filter, ◌∙◌}
+use borrow.Author.Tests.{tests}
+use Rattle.std.proofs.lemmas.Iterator.{YieldsList-from_slice, YieldsList-from_map}
+use Rattle.std.proofs.lemmas.Iterator.Consumers.{YieldsList-at, YieldsList-from_filter, sum_by_from_yields_List}
 use Rattle.table.specs.declared.records.Commitment.{Commitment}
-use Rattle.table.proofs.Sold.{sold_here, sold_other, sold_all}
+use Rattle.table.proofs.Sold.{sum_filter, sold_sum}
 use Rattle.table.proofs.entries.sold_by.Goals as goal
-use Rattle.table.proofs.entries.sold_by.Goals.{then-commitment-plant, else-commitment-plant}
-
-pub loop-commitment-preserved : goal.loop-commitment-preserved
-loop-commitment-preserved c =
-    let xs = c.args.commitments.now in
-    let i = c.loop-commitment.commitment-index in
-    let none : Commitment = record { plant = 0; buyer = 0; volume = 0 } in
-    elim c.if-commitment-plant.branch [
-      | then-commitment-plant w ↦ (
-        omega (arith, w.sold-is, c.loop-commitment.invariant.0, sold_here c.args.plant xs i none c.loop-commitment-test.true w.if-commitment-plant.true),
-        omega (arith, w.sold-is, c.loop-commitment.invariant.1),
-      )
-      | else-commitment-plant w ↦ (
-        omega (arith, w.sold-is, c.loop-commitment.invariant.0, sold_other c.args.plant xs i none c.loop-commitment-test.true w.if-commitment-plant.false),
-        omega (arith, w.sold-is, c.loop-commitment.invariant.1),
-      )
-    ]
 
 pub returns : goal.returns
-returns c = record {
-  value = omega (arith, c.loop-commitment.invariant.0, sold_all c.args.plant c.args.commitments.now c.loop-commitment.commitment-index c.loop-commitment-test.false);
-  bound = omega (arith, c.loop-commitment.invariant.1);
-}
+returns c =
+    let commitments = c.args.commitments.now in
+    let names = λ (x : Commitment). eqb x.plant c.args.plant in
+    let volume = λ (x : Commitment). x.volume in
+    sum_by_from_yields_List volume (filter names commitments) c.map.result c.sum.result c.sum.ensures.ran
+    (YieldsList-from_map _ volume (YieldsList-at c.map.ensures.source (YieldsList-from_filter _ names (YieldsList-at c.filter.ensures.source (YieldsList-from_slice commitments (cc))) c.filter.ensures.closure (λ x r q k. search (rules, tests)))) c.map.ensures.closure (λ x r q k. search (rules, tests)))
+    ∙ sum_filter volume names commitments ∙ sold_sum c.args.plant commitments

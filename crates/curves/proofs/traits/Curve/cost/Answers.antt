@@ -12,7 +12,7 @@ overflow_add-total g c =
     let price = g.Self.Curve.prices c.args.self.now in
     let next : max 1 (min (c.loop-done.done + 1) 2000000) ≡ suc c.loop-done.done = omega arith in
     let step = cost_step price _ _ _ _ _ _ _ next c.loop-done-test.true c.loop-done.invariant.2 c.price-price.ensures c.stretch_end.ensures c.min-end.ensures in
-    omega (arith, step, cost_bound price 10000000 (g.Self.Curve.bounded c.args.self.now) c.min-end.result)
+    omega (arith, step, cost_bound price 10000000 (g.met.Self.Curve.bounded c.args.self.now) c.min-end.result)
 
 pub loop-done-preserved : goal.loop-done-preserved
 loop-done-preserved g c =

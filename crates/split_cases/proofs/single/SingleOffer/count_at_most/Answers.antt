@@ -1,18 +1,17 @@
-use Rattle.split_cases.proofs.Counts.{rises, stopped, passed}
+use Rattle.std.proofs.Common.{◌+◌, ◌<◌, ◌≤◌, rules}
+use Rattle.std.proofs.lemmas.Iterator.{first_from_Range}
+use Rattle.curves.specs.Limits.{read_kwh}
+use Rattle.split_cases.specs.Singles.{single_price, single_rises}
+use Rattle.split_cases.proofs.Counts.{counted}
 use Rattle.split_cases.proofs.single.SingleOffer.count_at_most.Goals as goal
 
-pub returns-then-price : goal.returns-then-price
-returns-then-price c =
-    let s = c.args.self.now in
-    record {
-      rises = rises s;
-      count = stopped s _ _ _ _ _ c.min-energy.ensures c.loop-done-test.true c.loop-done.invariant.1 c.price.ensures c.if-price.true;
-    }
+pub returns-clause-rises : goal.returns-clause-rises
+returns-clause-rises c = single_rises c.args.self.now
 
-pub returns : goal.returns
-returns c =
+pub returns-clause-count : goal.returns-clause-count
+returns-clause-count c =
     let s = c.args.self.now in
-    record {
-      rises = rises s;
-      count = passed s _ _ _ _ c.min-energy.ensures c.loop-done-test.false c.loop-done.invariant.1;
-    }
+    let p = c.args.price in
+    counted s _ _ p _ _ c.min-energy.ensures c.unwrap_or.ensures
+    (first_from_Range _ _ _ _ (λ k. p < single_price s (read_kwh (k + 1))) (λ k. single_price s (read_kwh (k + 1)) ≤ p) c.find.ensures.ran
+    (λ k q e. search rules) (λ k q e. search rules))

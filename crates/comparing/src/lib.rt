@@ -1,0 +1,8 @@
+// What programs share that compare the engine with a second calculation: pseudo-random numbers, and counts of what differs.
+#![tactic(auto)]
+
+mod random;
+mod tallies;
+
+pub use random::Random;
+pub use tallies::Tally;

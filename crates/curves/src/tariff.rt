@@ -1,0 +1,44 @@
+// The tariff: an offer with one rate.
+ghost use Rattle.std.specs.Prelude.{◌≡◌};
+ghost use Rattle.curves.specs.Kinds.{tariff_price, tariff_bounded, tariff_rises};
+ghost use Rattle.curves.specs.Refusals.{tariff_made};
+
+use crate::limits::{MAX_KWH, MAX_PRICE};
+use crate::refusals::CurveRefusal;
+use crate::traits::{Curve, Offer};
+
+/// One rate for every kWh, in rial per MWh.
+#[derive(Clone, Copy)]
+pub struct Tariff {
+    pub rate: u32,
+}
+
+impl Tariff {
+    /// The tariff of a rate; a rate over the highest price is refused.
+    pub fn new(rate: u32) -> Result<Tariff, CurveRefusal>
+        ensures { result ≡ tariff_made rate }
+    {
+        if rate > MAX_PRICE {
+            return Err(CurveRefusal::Price);
+        }
+        Ok(Tariff { rate })
+    }
+}
+
+impl Curve for Tariff {
+    ghost prices = { tariff_price };
+
+    ghost bounded = { tariff_bounded };
+
+    fn price(&self, _kwh: u32) -> u32 {
+        self.rate.min(MAX_PRICE)
+    }
+
+    fn stretch_end(&self, _kwh: u32) -> u32 {
+        MAX_KWH
+    }
+}
+
+impl Offer for Tariff {
+    ghost rises = { tariff_rises };
+}

@@ -1,9 +1,0 @@
-pub mod Refusals
-pub mod Rows
-pub mod Entries
-pub mod Effects
-pub mod Readings
-pub mod Closing
-pub mod History
-pub mod Metered
-pub mod ClosingLaw
