@@ -23,6 +23,7 @@ impl<'a, O: Offer> Units<'a, O> {
     pub(crate) fn supply_below(&self, price: u32) -> u32
         ensures { let g = units_in O.Curve.prices self.now in result ≡ total g (below g price) }
     {
+        // `map_or` proves in none of four forms tried.
         let Some(under) = price.checked_sub(1) else {
             return 0;
         };

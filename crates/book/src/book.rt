@@ -21,6 +21,7 @@ impl Book {
         Book { table }
     }
 
+    // That the header is the one given stands in each contract of what opens an hour: no plainer as a record.
     /// Opens an empty hour, whatever the book held.
     pub fn open<'b>(&'b mut self, header: Header) -> OpenHour<'b>
         ensures empty { result.table.now ≡ empty_table }

@@ -23,6 +23,7 @@ pub struct Calls<'c, O, G> {
     pub readings: &'c [Reading],
 }
 
+// Of the runs each takes what its state needs, so their first parameters are the same: they are public calls.
 /// Opens an empty hour, whatever the book held, and takes entries in turn. The answers are written down as far as there
 /// is room.
 pub fn run_open<'b>(

@@ -10,6 +10,7 @@ pub struct SettledHour<'b> {
     pub(crate) table: &'b Table,
 }
 
+// Each question goes by a place: over a method of `Rows` that answers the row of a number they didn't prove.
 impl<'b> SettledHour<'b> {
     /// The figures of a unit of group 1 or 2.
     pub fn unit(&self, group: u32, number: u32) -> Result<UnitFigures, BookRefusal>

@@ -1,12 +1,15 @@
 // Compares what curves answer with the prices of the second calculation.
 use crate::by_kwh::{ByKwh, LAST_KWH, WINDOW};
-use crate::draws::{Drawn, any_ceiling, any_free};
+use crate::draws::{Drawn, any_free, any_price};
 use comparing::{Random, Tally};
 use curves::{Curve, Modified, Raised};
 use std::alloc::{AllocError, Global};
 
 /// How many kWh come before the last 120.
 pub const FAR: u32 = LAST_KWH - WINDOW;
+
+// The end of the ceilings that are drawn otherwise.
+const CEILINGS_END: u32 = 6_000;
 
 /// What was found of the curves of one kind, and of modified and raised curves over them.
 #[derive(Clone, Copy, Default)]
@@ -24,7 +27,7 @@ pub(crate) fn compare_kind<C: Drawn>(heap: Global, curves: u32) -> Result<KindTa
     for _ in 0..curves {
         let own = C::draw(&mut random);
         let free = any_free(&mut random);
-        let ceiling = any_ceiling(&mut random);
+        let ceiling = any_price(&mut random, CEILINGS_END);
         tally.compare(heap, &own, free, ceiling)?;
     }
     Ok(tally)

@@ -8,6 +8,9 @@ use std::array;
 // Rates and ceilings at their limits, or past them.
 const PRICES: [u32; 5] = [0, 1, 10_000_000, 10_000_001, u32::MAX];
 
+/// The end of the rates that are drawn otherwise: above their limit.
+pub(crate) const RATES_END: u32 = 12_000_000;
+
 /// A curve that stands on no other curve.
 pub trait Drawn: ByKwh + Drop {
     fn draw(random: &mut Random) -> Self;
@@ -24,7 +27,7 @@ impl<const RISES: bool> Drawn for Stepped<RISES> {
 impl Drawn for Tariff {
     fn draw(random: &mut Random) -> Tariff {
         Tariff {
-            rate: any_rate(random),
+            rate: any_price(random, RATES_END),
         }
     }
 }
@@ -90,16 +93,13 @@ pub(crate) fn any_list(heap: Global, random: &mut Random) -> Result<Vec<Step>, A
     (0..count).map(|_| source.next(random)).collect(heap)
 }
 
-pub(crate) fn any_rate(random: &mut Random) -> u32 {
-    one_in(2, random, &PRICES, |random| random.below(12_000_000))
+/// A price at its limits or past them, or one below `end`.
+pub(crate) fn any_price(random: &mut Random, end: u32) -> u32 {
+    one_in(2, random, &PRICES, |random| random.below(end))
 }
 
 /// How many first kWh are free.
 pub(crate) fn any_free(random: &mut Random) -> u32 {
     let limits = [0, 120, 1_999_950, 2_000_000, u32::MAX];
     one_in(2, random, &limits, |random| random.below(130))
-}
-
-pub(crate) fn any_ceiling(random: &mut Random) -> u32 {
-    one_in(2, random, &PRICES, |random| random.below(6000))
 }

@@ -1,7 +1,7 @@
 // Compares which lists of steps and which rates are refused.
 use crate::by_kwh::{LAST_KWH, TOP_PRICE, expanded};
 use crate::compare::{FAR, compare, same_prices};
-use crate::draws::{any_list, any_rate};
+use crate::draws::{RATES_END, any_list, any_price};
 use comparing::{Random, Tally};
 use curves::{Curve, Step, Stepped, Tariff};
 use std::alloc::{AllocError, Global};
@@ -54,7 +54,7 @@ pub(crate) fn compare_rates(heap: Global, rates: u32) -> Result<Tally, AllocErro
         heap,
         4,
         rates,
-        |_, random| Ok(same_tariff(any_rate(random))),
+        |_, random| Ok(same_tariff(any_price(random, RATES_END))),
     )
 }
 

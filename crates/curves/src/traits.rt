@@ -25,7 +25,8 @@ pub trait Curve {
         let energy = read_energy(energy);
         let mut total = 0u64;
         let mut done = 0u32;
-        // An iterator of stretches for two loops is longer, and its end would need a proof of its own.
+        // Each stretch begins where the one before it ended. An iterator of them is some 38 lines more for 8 fewer,
+        // and asks for a size of Self here.
         while done < energy {
             let price = self.price(done + 1);
             let end = self.stretch_end(done + 1).min(energy);
@@ -59,7 +60,7 @@ pub(crate) fn count_before_dearer<C: Curve>(curve: &C, energy: u32, price: u32) 
 {
     let energy = read_energy(energy);
     let mut done = 0u32;
-    // An iterator of stretches for two loops is longer, and its end would need a proof of its own.
+    // By stretches, as in `cost`: an iterator of them is longer.
     while done < energy {
         if curve.price(done + 1) > price {
             return done;

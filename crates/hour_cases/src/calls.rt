@@ -6,6 +6,7 @@ use settlement::{CompetitiveEnergies, Control};
 /// What a call answers.
 pub type Answer = Result<u32, BookRefusal>;
 
+// By the numbers that the entries and readings hold, as the public calls take them: cases give ones out of their sets too.
 pub(crate) fn plant(loss: u32) -> Entry {
     Entry::AddPlant { loss }
 }

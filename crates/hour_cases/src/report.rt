@@ -34,6 +34,7 @@ impl Row {
         })
     }
 
+    // One for a plant and a buyer would take the question and the case from its caller.
     fn plant(hour: &SettledHour, number: u32) -> Result<Row, BookRefusal> {
         let figures = hour.plant(number)?;
         Ok(Row::Plant { number, figures })

@@ -2,7 +2,7 @@
 use crate::calls::step;
 use crate::source::Source;
 use book::PriceRow;
-use curves::{Step, SteppedCost, SteppedOffer, Tariff};
+use curves::{Step, Stepped, Tariff};
 use std::alloc::AllocError;
 
 /// A row that closing or settling takes for a unit.
@@ -10,17 +10,14 @@ pub trait Drawn: Drop {
     fn draw(source: &mut Source) -> anyhow::Result<Self>;
 }
 
-impl Drawn for SteppedOffer {
-    fn draw(source: &mut Source) -> anyhow::Result<SteppedOffer> {
-        let steps = source.rising_steps()?;
-        Ok(SteppedOffer::new(steps.as_slice())?)
-    }
-}
-
-impl Drawn for SteppedCost {
-    fn draw(source: &mut Source) -> anyhow::Result<SteppedCost> {
-        let steps = source.any_steps()?;
-        Ok(SteppedCost::new(steps.as_slice())?)
+impl<const RISES: bool> Drawn for Stepped<RISES> {
+    fn draw(source: &mut Source) -> anyhow::Result<Stepped<RISES>> {
+        let steps = if RISES {
+            source.rising_steps()?
+        } else {
+            source.any_steps()?
+        };
+        Ok(Stepped::new(steps.as_slice())?)
     }
 }
 

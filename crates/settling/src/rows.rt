@@ -38,6 +38,7 @@ impl<O: Curve, C: Curve> Payer for ByRows<'_, O, C> {
     ghost payment = { λ s i u. row_payment O.Curve.prices C.Curve.prices s.ceiling s.rows.now i (paid_case u) };
 
     fn payment(&self, place: usize, unit: &UnitRecord, loss: u32) -> u64 {
+        // `map_or` over a row of generic curves doesn't prove.
         let Some(row) = self.rows.get(place) else {
             return 0;
         };
@@ -56,6 +57,7 @@ impl<G: Curve> Payer for ByOffers<'_, G> {
     ghost payment = { λ s i u. offer_payment G.prices s.saving s.offers.now i (bill_in u) u.feeds };
 
     fn payment(&self, place: usize, unit: &UnitRecord, loss: u32) -> u64 {
+        // As above.
         let Some(offer) = self.offers.get(place) else {
             return 0;
         };

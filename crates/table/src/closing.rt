@@ -13,6 +13,13 @@ use curves::{MAX_KWH, Offer};
 use settlement::{group_one_share, limit};
 use std::array;
 
+// A plant's number and its loss: the limits of its units depend on both.
+#[derive(Clone, Copy)]
+struct NumberedPlant {
+    number: u32,
+    loss: u32,
+}
+
 impl UnitRecord {
     // Whether it is a unit of the plant that is not put aside.
     fn counts_for(&self, plant: u32) -> bool
@@ -22,13 +29,14 @@ impl UnitRecord {
     }
 
     // Its limit in the plant's group.
-    fn limit_in(&self, plant: u32, loss: u32) -> u32
-        ensures { result ≡ limit_in plant loss self.now }
+    fn limit_in(&self, plant: NumberedPlant) -> u32
+        ensures { result ≡ limit_in plant.number plant.loss self.now }
     {
-        if !self.counts_for(plant) {
+        if !self.counts_for(plant.number) {
             return 0;
         }
-        limit(self.seasonal.unwrap_or(self.declared), self.internal, loss)
+        let energy = self.seasonal.unwrap_or(self.declared);
+        limit(energy, self.internal, plant.loss)
     }
 
     // Takes its amount if it is the plant's.
@@ -63,32 +71,31 @@ fn allocate_all(units: &mut [UnitRecord], plant: u32, amounts: &[u32])
     }
 }
 
-// A plant goes by its number and its loss: a struct of the two would be made for one call and taken apart in it.
 impl UnitTable {
     // The limit of the unit at a place in the plant's group; 0 past the units that are entered.
-    fn limit_at(&self, place: usize, plant: u32, loss: u32) -> u32
-        ensures { result ≡ limit_at plant loss self.now place }
+    fn limit_at(&self, place: usize, plant: NumberedPlant) -> u32
+        ensures { result ≡ limit_at plant.number plant.loss self.now place }
     {
         let unit = self.entered().get(place);
-        unit.map_or(0, |unit| unit.limit_in(plant, loss))
+        unit.map_or(0, |unit| unit.limit_in(plant))
     }
 
     // The limits of the plant's group.
-    fn limits(&self, plant: u32, loss: u32) -> [u32; UNITS]
-        ensures { (k : ℕ) → slice_index result k ≡ limit_at plant loss self.now k }
+    fn limits(&self, plant: NumberedPlant) -> [u32; UNITS]
+        ensures { (k : ℕ) → slice_index result k ≡ limit_at plant.number plant.loss self.now k }
     {
-        array::from_fn(|place| self.limit_at(place, plant, loss))
+        array::from_fn(|place| self.limit_at(place, plant))
     }
 
     // Splits a share over the plant's units of this group, and answers what stays uncovered.
-    fn close<O: Offer>(&mut self, offers: &[O], plant: u32, loss: u32, share: u32) -> u32
-        ensures { GroupClosed O.Curve.prices offers.now plant loss share self.old self.new result }
+    fn close<O: Offer>(&mut self, offers: &[O], plant: NumberedPlant, share: u32) -> u32
+        ensures { GroupClosed O.Curve.prices offers.now plant.number plant.loss share self.old self.new result }
     {
         let entered = self.entered().len();
-        let limits = self.limits(plant, loss);
+        let limits = self.limits(plant);
         let mut amounts = [0u32; UNITS];
         let uncovered = split(offers, &limits, share, &mut amounts);
-        allocate_all(&mut self.rows[..entered], plant, &amounts);
+        allocate_all(&mut self.rows[..entered], plant.number, &amounts);
         uncovered
     }
 
@@ -107,16 +114,15 @@ impl Table {
         requires { place < 32 }
         ensures { PlantClosed O.Curve.prices offers.now G.Curve.prices guaranteed.now place self.old self.new }
     {
-        let plant = place as u32 + 1;
+        let number = place as u32 + 1;
         let loss = self.plants.rows[place].loss;
-        let committed = self.sold(plant).min(MAX_VOLUME as u64) as u32;
-        let competitive_gross = self.competitive.declared(plant, offers.len());
-        let guaranteed_gross = self.guaranteed.declared(plant, guaranteed.len());
+        let plant = NumberedPlant { number, loss };
+        let committed = self.sold(number).min(MAX_VOLUME as u64) as u32;
+        let competitive_gross = self.competitive.declared(number, offers.len());
+        let guaranteed_gross = self.guaranteed.declared(number, guaranteed.len());
         let share = group_one_share(committed, competitive_gross, guaranteed_gross);
-        let competitive_left = self.competitive.close(offers, plant, loss, share);
-        let guaranteed_left = self
-            .guaranteed
-            .close(guaranteed, plant, loss, committed - share);
+        let competitive_left = self.competitive.close(offers, plant, share);
+        let guaranteed_left = self.guaranteed.close(guaranteed, plant, committed - share);
         let figures = PlantFigures::closed(committed, competitive_left + guaranteed_left);
         self.plants.rows[place] = Plant { loss, figures };
     }

@@ -163,6 +163,7 @@ impl Plant {
 }
 
 impl UnitRecord {
+    // By the numbers of the entry that adds it.
     /// A unit that is not aside.
     pub(crate) fn new(
         plant: u32,

@@ -13,7 +13,7 @@ returns g c =
     let none = new_unit 0 0 None 0 0 in
     let entered = c.entered-entered.result.now in
     let few = c.entered-entered.ensures.few in
-    let same = group_same g.O.Curve.prices c.args.offers.now c.args.plant c.args.loss before c.limits-limits.result 128 (omega arith) refl c.limits-limits.ensures in
+    let same = group_same g.O.Curve.prices c.args.offers.now c.args.plant.number c.args.plant.loss before c.limits-limits.result 128 (omega arith) refl c.limits-limits.ensures in
     let amounts = c.split-uncovered.new.amounts in
     let front = c.allocate_all.new.units in
     let n = length entered in
@@ -25,6 +25,6 @@ returns g c =
       count = refl;
       long = front_long before.rows front n within long none;
       entered = λ i lt. front_at before.rows front n within long none i (omega (arith, few)) ∙ c.allocate_all.ensures i (omega (arith, few, long))
-          ∙ ap (allocated_to c.args.plant (get_or amounts i 0)) (get_or-take n before.rows i none (omega (arith, few)));
+          ∙ ap (allocated_to c.args.plant.number (get_or amounts i 0)) (get_or-take n before.rows i none (omega (arith, few)));
       others = λ i past. front_past before.rows front n within long none i (omega (arith, few));
     }

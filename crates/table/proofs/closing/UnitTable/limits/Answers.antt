@@ -8,6 +8,6 @@ use Rattle.table.proofs.closing.UnitTable.limits.Goals as goal
 pub returns : goal.returns
 returns c = λ k.
     ⊎_elim
-    (λ lt. made_each _ _ (limit_at c.args.plant c.args.loss c.args.self.now) (λ i y q called. search rules) c.from_fn.result 128 c.from_fn.ensures.items k 0 lt)
+    (λ lt. made_each _ _ (limit_at c.args.plant.number c.args.plant.loss c.args.self.now) (λ i y q called. search rules) c.from_fn.result 128 c.from_fn.ensures.items k 0 lt)
     (λ past. get_or_past c.from_fn.result k 0 (omega arith) ∙ sym (cond-false _ _ _ (le-ltb k (min c.args.self.now.count 128) (omega arith))))
     (cases_lt k 128)
