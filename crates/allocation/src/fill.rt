@@ -10,7 +10,7 @@ ghost use Rattle.allocation.specs.Supply.{Filled};
 use crate::group::Units;
 use curves::Offer;
 
-// How many of an offer's first `energy` kWh cost less than `price`.
+// How many of an offer's first `energy` kWh cost less than `price`. Both as the public `count_at_most` takes them.
 fn count_below<O: Offer>(offer: &O, energy: u32, price: u32) -> u32
     ensures { AtMost (λ k. suc (O.Curve.prices offer.now k)) (read_energy energy) price result }
 {

@@ -18,6 +18,8 @@ pub struct ClosedHour<'b> {
     pub(crate) header: Header,
 }
 
+// The methods take a reading's parameters one by one: they are the public calls. That the header stays stands in the
+// contract that isn't `ReadingTaken`'s, as in the open hour's.
 impl<'b> ClosedHour<'b> {
     /// Takes a reading: answers the number of the row that it changed, or what turned it down.
     pub fn read(&mut self, reading: Reading) -> Result<u32, BookRefusal>

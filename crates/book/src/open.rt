@@ -18,9 +18,9 @@ pub struct OpenHour<'b> {
     pub(crate) header: Header,
 }
 
-// The methods take an entry's parameters one by one, though some travel together: they are the public calls. So does
-// `feeds`, a number, since callers may give any. That the header stays stands in each public contract that isn't
-// `EntryTaken`'s: a record of that clause alone would be no plainer.
+// The methods take an entry's parameters one by one, and closing the offers of both groups, though some travel together:
+// they are the public calls. `feeds` stays a number, since callers may give any. That the header stays stands in each
+// public contract that isn't `EntryTaken`'s: a record of that clause alone would be no plainer.
 impl<'b> OpenHour<'b> {
     /// Takes an entry: answers the number of the row that it made or changed, or what turned it down.
     pub fn enter(&mut self, entry: Entry) -> Result<u32, BookRefusal>

@@ -23,7 +23,8 @@ pub struct Calls<'c, O, G> {
     pub readings: &'c [Reading],
 }
 
-// Of the runs each takes what its state needs, so their first parameters are the same: they are public calls.
+// Of the runs each takes what its state needs, so their first parameters are the same, and the first takes its entries and
+// their answers one by one as `enter_all` does: they are public calls. Each says `EntriesJudged` of its own entries.
 /// Opens an empty hour, whatever the book held, and takes entries in turn. The answers are written down as far as there
 /// is room.
 pub fn run_open<'b>(

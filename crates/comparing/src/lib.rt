@@ -1,8 +1,10 @@
 // What programs share that compare the engine with a second calculation: pseudo-random numbers, and counts of what differs.
 #![tactic(auto)]
 
+mod comparisons;
 mod random;
 mod tallies;
 
+pub use comparisons::compare;
 pub use random::Random;
-pub use tallies::Tally;
+pub use tallies::{Finding, Tally};

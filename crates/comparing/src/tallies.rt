@@ -1,5 +1,8 @@
 // What a comparison found.
-ghost use Rattle.std.specs.Prelude.{◌≡◌, ◌≢◌, ◌+◌, ◌-◌, ◌^◌, min, if◌then◌else◌};
+ghost use Rattle.std.specs.Prelude.{◌≡◌, ◌≢◌, ◌+◌, ◌-◌, ◌^◌, min, if◌then◌else◌, Some};
+ghost use Rattle.comparing.specs.Texts.{finding_text};
+
+use std::fmt;
 
 /// How many were compared, and how many differ.
 #[derive(Clone, Copy, Default)]
@@ -18,5 +21,26 @@ impl Tally {
         if !same {
             self.differ = self.differ.saturating_add(1);
         }
+    }
+}
+
+/// What was found of some things of a subject.
+#[derive(Clone, Copy)]
+pub struct Finding<'a> {
+    pub subject: &'a str,
+    pub things: &'a str,
+    pub tally: Tally,
+}
+
+impl<'a> fmt::Display for Finding<'a> {
+    ghost output = { λ f. Some (finding_text f) };
+
+    fn fmt<W: fmt::Write>(&self, f: &mut fmt::Formatter<W>) -> fmt::Result {
+        let tally = self.tally;
+        write!(
+            f,
+            "{}: {} {}, {} differ",
+            self.subject, tally.compared, self.things, tally.differ
+        )
     }
 }

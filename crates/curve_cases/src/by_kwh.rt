@@ -12,6 +12,7 @@ pub const TOP_PRICE: u32 = 10_000_000;
 /// How many kWh are calculated together.
 pub const WINDOW: u32 = 120;
 
+// Each kind is handed the heap for the list that it answers.
 /// A curve that the second calculation knows.
 pub trait ByKwh: Curve {
     /// The prices of the 120 kWh after the first `skipped`.

@@ -33,24 +33,6 @@ pub(crate) fn compare_kind<C: Drawn>(heap: Global, curves: u32) -> Result<KindTa
     Ok(tally)
 }
 
-/// Compares so many times what is drawn from a seed.
-// Hands on the heap, since a closure in a function with a const parameter gets no proof.
-pub(crate) fn compare<F: Fn(Global, &mut Random) -> Result<bool, AllocError>>(
-    heap: Global,
-    seed: u64,
-    times: u32,
-    is_same: F,
-) -> Result<Tally, AllocError>
-    requires { F.IsAlwaysCallable is_same }
-{
-    let mut random = Random::new(seed);
-    let mut tally = Tally::default();
-    for _ in 0..times {
-        tally.note(is_same(heap, &mut random)?);
-    }
-    Ok(tally)
-}
-
 impl KindTally {
     fn compare<C: ByKwh>(
         &mut self,

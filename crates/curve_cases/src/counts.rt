@@ -1,8 +1,7 @@
 // Compares the counts of offers with counting kWh one by one.
 use crate::by_kwh::LAST_KWH;
-use crate::compare::compare;
 use crate::draws::Drawn;
-use comparing::Tally;
+use comparing::{Tally, compare};
 use curves::Offer;
 use std::alloc::{AllocError, Global};
 
@@ -18,32 +17,42 @@ pub(crate) fn compare_counts<O: Drawn + Offer>(
         |heap, random| -> Result<bool, AllocError> {
             let offer = O::draw(random);
             let prices = offer.by_kwh(heap, 0)?;
-            Ok(same_counts(&offer, prices.as_slice()) && same_far_counts(&offer))
+            let priced = Priced { offer, prices };
+            Ok(priced.same_counts() && same_far_counts(&priced.offer))
         },
     )
 }
 
-// Whether the counts are the same for every tenth number of kWh up to 120.
-fn same_counts<O: Offer>(offer: &O, prices: &[u32]) -> bool {
-    (0..13).map(|tens| tens * 10).all(|energy| {
-        same_at_prices(offer, energy, prices)
-            && same_count(offer, energy, prices, 0)
-            && same_count(offer, energy, prices, u32::MAX)
-    })
+// An offer, and the prices of its first 120 kWh by the second calculation.
+#[derive(Drop)]
+struct Priced<O> {
+    offer: O,
+    prices: Vec<u32>,
 }
 
-// Whether the counts are the same at the price of each kWh and just under it.
-fn same_at_prices<O: Offer>(offer: &O, energy: u32, prices: &[u32]) -> bool {
-    prices.iter().all(|price| {
-        same_count(offer, energy, prices, *price)
-            && same_count(offer, energy, prices, price.saturating_sub(1))
-    })
-}
+impl<O: Offer> Priced<O> {
+    // Whether the counts are the same for every tenth number of kWh up to 120.
+    fn same_counts(&self) -> bool {
+        (0..13).map(|tens| tens * 10).all(|energy| {
+            self.same_at_prices(energy)
+                && self.same_count(energy, 0)
+                && self.same_count(energy, u32::MAX)
+        })
+    }
 
-fn same_count<O: Offer>(offer: &O, energy: u32, prices: &[u32], price: u32) -> bool {
-    let first = prices.iter().take(energy as usize);
-    let count = first.filter(|each| **each <= price).count();
-    offer.count_at_most(energy, price) as usize == count
+    // Whether the counts are the same at the price of each kWh and just under it.
+    fn same_at_prices(&self, energy: u32) -> bool {
+        self.prices.iter().all(|price| {
+            self.same_count(energy, *price) && self.same_count(energy, price.saturating_sub(1))
+        })
+    }
+
+    // Energy and price as the count takes them.
+    fn same_count(&self, energy: u32, price: u32) -> bool {
+        let first = self.prices.iter().take(energy as usize);
+        let count = first.filter(|each| **each <= price).count();
+        self.offer.count_at_most(energy, price) as usize == count
+    }
 }
 
 // Whether more kWh than there are count as all.

@@ -84,6 +84,7 @@ fn any_table(random: &mut Random) -> StepTable {
     StepTable { count, steps }
 }
 
+// The heap beside what the list is drawn from: `Random` allocates nothing.
 /// A list of 0 to 12 steps: one in five with many fields outside their limits, and two in five with few.
 pub(crate) fn any_list(heap: Global, random: &mut Random) -> Result<Vec<Step>, AllocError> {
     let odds = random.one_of(&[5, 40, 40, u32::MAX, u32::MAX]);

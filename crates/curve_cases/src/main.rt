@@ -8,7 +8,7 @@ mod draws;
 mod refusals;
 
 use compare::{KindTally, compare_kind};
-use comparing::Tally;
+use comparing::{Finding, Tally};
 use counts::compare_counts;
 use curves::{SteppedCost, SteppedOffer, Tariff};
 use refusals::{compare_lists, compare_rates};
@@ -39,9 +39,11 @@ fn show_kind(rt: &HostRuntime, kind: &str, tally: KindTally) -> io::Result<()> {
     show(rt, kind, "raised and modified curves", tally.both)
 }
 
-fn show(rt: &HostRuntime, kind: &str, things: &str, tally: Tally) -> io::Result<()> {
-    println!(rt;
-        "{kind}: {} {things}, {} differ",
-        tally.compared, tally.differ
-    )
+fn show(rt: &HostRuntime, subject: &str, things: &str, tally: Tally) -> io::Result<()> {
+    let found = Finding {
+        subject,
+        things,
+        tally,
+    };
+    println!(rt; "{found}")
 }

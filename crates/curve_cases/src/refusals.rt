@@ -1,8 +1,8 @@
 // Compares which lists of steps and which rates are refused.
 use crate::by_kwh::{LAST_KWH, TOP_PRICE, expanded};
-use crate::compare::{FAR, compare, same_prices};
+use crate::compare::{FAR, same_prices};
 use crate::draws::{RATES_END, any_list, any_price};
-use comparing::{Random, Tally};
+use comparing::{Random, Tally, compare};
 use curves::{Curve, Step, Stepped, Tariff};
 use std::alloc::{AllocError, Global};
 
@@ -14,6 +14,7 @@ pub(crate) fn compare_lists<const RISES: bool>(
     compare(heap, 3, lists, same_drawn::<RISES>)
 }
 
+// Takes what `compare` hands on.
 fn same_drawn<const RISES: bool>(heap: Global, random: &mut Random) -> Result<bool, AllocError> {
     let list = any_list(heap, random)?;
     same_made::<RISES>(heap, list.as_slice())
@@ -34,10 +35,7 @@ fn same_made<const RISES: bool>(heap: Global, list: &[Step]) -> Result<bool, All
 // The number of the refusal of a list of steps; None where it is accepted. A number, since the numbers that callers get
 // are compared too: 8 for the steps, 9 for a price.
 fn refusal_number(rises: bool, list: &[Step]) -> Option<u32> {
-    let falls = list
-        .iter()
-        .zip(list.iter().skip(1))
-        .any(|(before, after)| after.price < before.price);
+    let falls = !list.is_sorted_by_key(|step| step.price);
     let widths_fit = list.iter().all(|step| (1..=LAST_KWH).contains(&step.width));
     if list.is_empty() || list.len() > 10 || !widths_fit || rises && falls {
         Some(8)

@@ -4,6 +4,7 @@ ghost use Rattle.curves.specs.Kinds.{modified_price, modified_bounded};
 use crate::limits::{MAX_KWH, read_kwh};
 use crate::traits::Curve;
 
+// A type beside `Raised`: what they do with the price differs, and a field in common is no reason for one type.
 /// The first `free` kWh cost nothing, and later ones what they cost by the curve below.
 #[derive(Drop)]
 pub struct Modified<'a, C: Curve> {

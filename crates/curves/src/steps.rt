@@ -18,7 +18,8 @@ pub struct Step {
 }
 
 /// Up to ten steps, of which the first `count` are in use.
-// A count beside an array: a plain record in fixed memory, with a meaning for whatever its fields hold.
+// A count beside an array: a plain record in fixed memory, with a meaning for whatever its fields hold. Not the table's
+// `Rows`: a count of 0 is read as 1, and this crate lies below.
 #[derive(Clone, Copy)]
 pub struct StepTable {
     pub count: u32,

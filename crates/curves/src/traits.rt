@@ -54,7 +54,8 @@ pub trait Offer: Curve {
     ghost rises: { (o : Self) → NeverFalls (Self.Curve.prices o) };
 }
 
-// How many of the first `energy` kWh come before the first that costs more than `price`.
+// How many of the first `energy` kWh come before the first that costs more than `price`. Both as the public
+// `count_at_most` takes them.
 pub(crate) fn count_before_dearer<C: Curve>(curve: &C, energy: u32, price: u32) -> u32
     ensures { BeforeDearer (C.prices curve.now) (read_energy energy) price result }
 {

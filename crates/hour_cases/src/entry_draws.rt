@@ -78,6 +78,7 @@ impl Source {
     // A correction, a unit put aside or taken back, or a late unit.
     fn any_change(&mut self) -> Entry {
         let group = self.random.one_of(&GROUPS);
+        // A number, since the group is drawn out of its set too.
         let count = if group == 2 {
             self.guaranteed
         } else {

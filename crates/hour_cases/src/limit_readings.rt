@@ -5,6 +5,7 @@ use book::{GuaranteedReading, Reading, UnitReading};
 use std::alloc::AllocError;
 use std::array;
 
+// No bound says that a closure may be called, so each function that takes one asks for it.
 // A reading in which these fields are set, and the others 0.
 fn with<R: Default + Drop, F: FnOnce(&mut R)>(set: F) -> R
     requires { F.IsAlwaysCallable set }

@@ -102,6 +102,7 @@ impl Source {
         Ok(readings)
     }
 
+    // No bound says that `read` may be called, so each function that takes it asks for that.
     fn read_most<R: Fn(&mut Source, u32) -> Reading>(
         &mut self,
         readings: &mut Vec<Reading>,

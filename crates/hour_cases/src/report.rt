@@ -34,7 +34,8 @@ impl Row {
         })
     }
 
-    // One for a plant and a buyer would take the question and the case from its caller.
+    // One for a plant and a buyer would take the question and the case from its caller. The hour and a number are what the
+    // hour is asked with.
     fn plant(hour: &SettledHour, number: u32) -> Result<Row, BookRefusal> {
         let figures = hour.plant(number)?;
         Ok(Row::Plant { number, figures })
@@ -46,31 +47,22 @@ impl Row {
     }
 }
 
-// The fields that the worked hour prints too, under words of its own: a row of them has no form in the crates below.
 impl Display for Row {
     fn fmt<W: fmt::Write>(&self, f: &mut fmt::Formatter<W>) -> fmt::Result {
         match self {
             Row::Unit {
                 group,
                 number,
-                figures: u,
+                figures,
             } => {
                 let letter = match group {
                     Group::Competitive => 'C',
                     Group::Guaranteed => 'G',
                 };
-                write!(
-                    f,
-                    "U {letter} {number} {} {} {}",
-                    u.allocated, u.billed, u.payment
-                )
+                write!(f, "U {letter} {number} {figures}")
             }
-            Row::Plant { number, figures: p } => write!(
-                f,
-                "P {number} {} {} {} {} {} {}",
-                p.committed, p.allocated, p.run, p.support, p.rate, p.cost
-            ),
-            Row::Buyer { number, figures: b } => write!(f, "B {number} {} {}", b.share, b.net),
+            Row::Plant { number, figures } => write!(f, "P {number} {figures}"),
+            Row::Buyer { number, figures } => write!(f, "B {number} {figures}"),
         }
     }
 }
@@ -129,8 +121,7 @@ impl Report {
         self.rows(|number| Row::unit(hour, 2, number))?;
         self.rows(|number| Row::plant(hour, number))?;
         self.rows(|number| Row::buyer(hour, number))?;
-        let h = hour.hour();
-        writeln!(self.text, "H {} {} {}", h.billed, h.committed, h.unassigned)
+        writeln!(self.text, "H {}", hour.hour())
     }
 
     // What the hour answers about a number: the plant, the buyer, and the unit of groups 0 to 3.

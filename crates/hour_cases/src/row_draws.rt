@@ -41,7 +41,8 @@ impl<O: Drawn, C: Drawn> Drawn for PriceRow<O, C> {
 }
 
 impl Source {
-    // One to four steps, with these prices.
+    // One to four steps, with these prices. Those of `split_cases` come from another source in other sizes: one for both
+    // would need a crate of its own, with `curves` below it.
     fn steps<F: FnMut(&mut Source) -> u32>(&mut self, mut price: F) -> Result<Vec<Step>, AllocError>
         requires { F.IsAlwaysCallable price }
     {

@@ -68,6 +68,7 @@ pub(crate) fn read_by_name(hour: &mut ClosedHour, reading: Reading) -> Answer {
     }
 }
 
+// No bound says that `enter` and `read` may be called, so each function that takes one asks for it.
 impl<G: Offer + Drop, S: Offer + Drop> Plan<G, S> {
     /// Opens the hour and makes its entries in turn.
     pub(crate) fn opened<'b, E: Fn(&mut OpenHour, Entry) -> Answer>(

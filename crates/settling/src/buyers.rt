@@ -24,6 +24,7 @@ pub(crate) struct Sold<'t> {
     ghost few: { length commitments.now ≤ 768 },
 }
 
+// Sums of volumes have no type of their own, so each function says their bound.
 impl Sold<'_> {
     /// All volumes.
     pub(crate) fn volumes(&self) -> u64
@@ -36,7 +37,8 @@ impl Sold<'_> {
             .sum()
     }
 
-    // The volumes that a buyer bought.
+    // The volumes that a buyer bought. The table sums what a plant sold in the same way; one for both would take the field
+    // from its caller.
     fn bought_by(&self, buyer: u32) -> u64
         ensures value { result ≡ bought_by buyer self.now.commitments.now }
         ensures bound { result ≤ 768 * 4294967295 }

@@ -22,7 +22,8 @@ pub(crate) struct ByRows<'r, O, C> {
     pub(crate) ceiling: u32,
 }
 
-// A competitive unit as its payment looks at it.
+// A competitive unit as its payment looks at it. Unit and loss as `Payer` takes them: a struct of both would live for one
+// call alone.
 fn paid_unit(unit: &UnitRecord, loss: u32) -> PaidUnit
     ensures { result ≡ paid_case (case_of loss unit.now) }
 {

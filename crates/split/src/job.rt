@@ -33,6 +33,7 @@ impl Job {
         }
     }
 
+    // The heap beside the text: what is read of it takes memory.
     fn take_line(&mut self, heap: Global, text: &str) -> Result<(), Fault> {
         match read_line(heap, text)? {
             None => Ok(()),

@@ -37,6 +37,7 @@ impl FromStr for Keyword {
     }
 }
 
+// The heap beside the text: what is read of it takes memory.
 /// Reads a line; an empty one says nothing.
 pub(crate) fn read_line(heap: Global, text: &str) -> Result<Option<Line>, Fault> {
     let words = words_of(heap, text)?;

@@ -12,6 +12,7 @@ struct Kwh {
     place: usize,
 }
 
+// The heap beside the case: what is made of it takes memory.
 impl Outcome {
     /// The outcome of taking one kWh after the other, the cheapest first.
     pub(crate) fn by_kwh(heap: Global, case: &Case) -> Result<Outcome, AllocError> {

@@ -17,6 +17,7 @@ pub struct Case {
     pub share: u32,
 }
 
+// The heap beside what is drawn from: `Random` allocates nothing.
 impl Case {
     /// A group of 1 to 12 units, with 1 to `most_steps` steps each.
     pub(crate) fn make(
@@ -53,7 +54,8 @@ fn any_limit(random: &mut Random) -> u32 {
     }
 }
 
-// Steps of few prices that never fall.
+// Steps of few prices that never fall. Those of `hour_cases` come from another source in other sizes: one for both would
+// need a crate of its own, with `curves` below it.
 fn any_steps(
     heap: Global,
     random: &mut Random,

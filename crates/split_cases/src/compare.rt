@@ -3,7 +3,7 @@ use crate::cases::Case;
 use crate::offers::{FromSteps, offers_of};
 use crate::outcomes::Outcome;
 use crate::single::Single;
-use comparing::{Random, Tally};
+use comparing::{Tally, compare};
 use curves::{Curve, Offer, SteppedOffer};
 use std::alloc::Global;
 
@@ -13,51 +13,22 @@ pub(crate) fn compare_splits<O: FromSteps>(
     groups: u32,
     most_steps: u32,
 ) -> anyhow::Result<Tally> {
-    compare(
-        heap,
-        1,
-        groups,
-        most_steps,
-        |case| -> anyhow::Result<bool> {
-            let offers = offers_of::<O>(heap, case)?;
-            let split = Outcome::of_offers(heap, case, offers.as_slice())?;
-            Ok(split == Outcome::by_kwh(heap, case)?)
-        },
-    )
+    compare(heap, 1, groups, |heap, random| -> anyhow::Result<bool> {
+        let case = Case::make(heap, random, most_steps)?;
+        let offers = offers_of::<O>(heap, &case)?;
+        let split = Outcome::of_offers(heap, &case, offers.as_slice())?;
+        Ok(split == Outcome::by_kwh(heap, &case)?)
+    })
 }
 
 /// Compares the costs and counts of stepped offers with those of the same offers in single kWh.
 pub(crate) fn compare_curves(heap: Global, groups: u32, most_steps: u32) -> anyhow::Result<Tally> {
-    compare(
-        heap,
-        2,
-        groups,
-        most_steps,
-        |case| -> anyhow::Result<bool> {
-            let stepped = offers_of::<SteppedOffer>(heap, case)?;
-            let single = offers_of::<Single>(heap, case)?;
-            Ok(same_curves(stepped.as_slice(), single.as_slice()))
-        },
-    )
-}
-
-// Compares at so many groups, drawn from a seed.
-fn compare<F: Fn(&Case) -> anyhow::Result<bool>>(
-    heap: Global,
-    seed: u64,
-    groups: u32,
-    most_steps: u32,
-    is_same: F,
-) -> anyhow::Result<Tally>
-    requires { F.IsAlwaysCallable is_same }
-{
-    let mut random = Random::new(seed);
-    let mut tally = Tally::default();
-    for _ in 0..groups {
-        let case = Case::make(heap, &mut random, most_steps)?;
-        tally.note(is_same(&case)?);
-    }
-    Ok(tally)
+    compare(heap, 2, groups, |heap, random| -> anyhow::Result<bool> {
+        let case = Case::make(heap, random, most_steps)?;
+        let stepped = offers_of::<SteppedOffer>(heap, &case)?;
+        let single = offers_of::<Single>(heap, &case)?;
+        Ok(same_curves(stepped.as_slice(), single.as_slice()))
+    })
 }
 
 fn same_curves(stepped: &[SteppedOffer], single: &[Single]) -> bool {

@@ -9,7 +9,7 @@ mod outcomes;
 mod single;
 
 use compare::{compare_curves, compare_splits};
-use comparing::Tally;
+use comparing::{Finding, Tally};
 use curves::{SteppedOffer, Tariff};
 use single::Single;
 use std::io;
@@ -27,9 +27,11 @@ fn main(rt: HostRuntime) -> anyhow::Result<()> {
     Ok(())
 }
 
-fn show(rt: &HostRuntime, compared: &str, groups: Tally) -> io::Result<()> {
-    println!(rt;
-        "{compared}: {} groups, {} differ",
-        groups.compared, groups.differ
-    )
+fn show(rt: &HostRuntime, subject: &str, tally: Tally) -> io::Result<()> {
+    let found = Finding {
+        subject,
+        things: "groups",
+        tally,
+    };
+    println!(rt; "{found}")
 }

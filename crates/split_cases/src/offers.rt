@@ -21,6 +21,7 @@ impl FromSteps for Tariff {
     }
 }
 
+// The heap beside the case: what is made of it takes memory.
 /// The offer of each unit.
 pub(crate) fn offers_of<O: FromSteps>(heap: Global, case: &Case) -> anyhow::Result<Vec<O>> {
     case.units

@@ -12,6 +12,7 @@ pub struct Outcome {
     pub uncovered: u32,
 }
 
+// The heap beside the case: what is made of it takes memory.
 impl Outcome {
     /// The outcome of the split over these offers.
     pub(crate) fn of_offers<O: Offer>(

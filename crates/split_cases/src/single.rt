@@ -27,7 +27,7 @@ impl Curve for Single {
 impl Offer for Single {
     ghost rises = { single_rises };
 
-    // Counts each kWh, and not each stretch.
+    // Counts each kWh, and not each stretch. The parameters are those of the trait.
     fn count_at_most(&self, energy: u32, price: u32) -> u32 {
         let energy = energy.min(MAX_KWH);
         (0..energy)

@@ -1,5 +1,6 @@
 pub mod Refusals
 pub mod Rows
+pub mod Texts
 pub mod Entries
 pub mod Effects
 pub mod Groups

@@ -108,6 +108,7 @@ impl UnitTable {
     }
 }
 
+// Offers of both groups side by side, as the public `close` takes them.
 impl Table {
     // Closes both groups of the plant at a place, and writes its figures.
     fn close_plant<O: Offer, G: Offer>(&mut self, place: usize, offers: &[O], guaranteed: &[G])
@@ -141,7 +142,8 @@ impl Table {
     fn close_plants<O: Offer, G: Offer>(&mut self, offers: &[O], guaranteed: &[G])
         ensures { Closed O.Curve.prices offers.now G.Curve.prices guaranteed.now self.old self.new }
     {
-        // By places: closing a plant writes into three arrays of the table, so the loop can borrow none.
+        // By places: closing a plant reads the table's commitments and writes three of its arrays, and its promise speaks of
+        // the whole table before and after, so it takes the whole table.
         let entered = self.plants.entered().len();
         for place in 0..entered {
             self.close_plant(place, offers, guaranteed);

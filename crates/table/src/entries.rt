@@ -57,7 +57,8 @@ pub enum Entry {
     },
 }
 
-// The volumes sold by a plant.
+// The volumes sold by a plant. Settling sums what a buyer bought in the same way; one for both would take the field from
+// its caller.
 fn sold_by(commitments: &[Commitment], plant: u32) -> u64
     requires { length commitments.now ≤ 768 }
     ensures { result ≡ sold_by plant commitments.now }
@@ -130,6 +131,7 @@ impl Table {
         Ok(())
     }
 
+    // `answer_of` and `after_entry` are the two promises of the public `enter`; each part of it makes them of its entry.
     // Plants and buyers share the check and the adding; what is left is two lines for each.
     fn add_plant(&mut self, loss: u32) -> Result<u32, BookRefusal>
         ensures answer { result ≡ answer_of (Entry.AddPlant loss) self.old }

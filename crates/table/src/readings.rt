@@ -89,6 +89,7 @@ impl UnitReading {
     }
 }
 
+// By the numbers that the reading holds, as the public calls take them.
 impl Table {
     fn read_unit(
         &mut self,

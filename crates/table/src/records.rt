@@ -1,12 +1,14 @@
 // The records of the book's table. They are plain, and each array is made by repeating an empty record: the engine has no heap.
-ghost use Rattle.std.specs.Prelude.{◌≡◌, ◌+◌, ◌<◌, ◌≤◌, ◌*◌, None, [], slice_index_or};
+ghost use Rattle.std.specs.Prelude.{◌≡◌, ◌+◌, ◌<◌, ◌≤◌, ◌*◌, None, [], slice_index_or, Some};
 ghost use Rattle.table.specs.History.{Stands, empty_table};
 ghost use Rattle.table.specs.Rows.{closed_figures, new_plant, new_unit, new_buyer, corrected, moved, changed, with_reading, kept_reading, read_use};
+ghost use Rattle.table.specs.Texts.{unit_text, plant_text, buyer_text, hour_text};
 ghost use Rattle.table.specs.declared.records.UnitRecord.{UnitRecord};
 ghost use Rattle.std.specs.Fn.{FnOnceReturnsAtMut};
 
 use crate::rows::Rows;
 use settlement::{CompetitiveEnergies, Control};
+use std::fmt;
 
 pub const PLANTS: usize = 32;
 
@@ -117,6 +119,43 @@ pub struct Commitment {
     pub plant: u32,
     pub buyer: u32,
     pub volume: u32,
+}
+
+// One text for every program that prints figures.
+impl fmt::Display for UnitFigures {
+    ghost output = { λ u. Some (unit_text u) };
+
+    fn fmt<W: fmt::Write>(&self, f: &mut fmt::Formatter<W>) -> fmt::Result {
+        write!(f, "{} {} {}", self.allocated, self.billed, self.payment)
+    }
+}
+
+impl fmt::Display for PlantFigures {
+    ghost output = { λ p. Some (plant_text p) };
+
+    fn fmt<W: fmt::Write>(&self, f: &mut fmt::Formatter<W>) -> fmt::Result {
+        write!(
+            f,
+            "{} {} {} {} {} {}",
+            self.committed, self.allocated, self.run, self.support, self.rate, self.cost
+        )
+    }
+}
+
+impl fmt::Display for BuyerFigures {
+    ghost output = { λ b. Some (buyer_text b) };
+
+    fn fmt<W: fmt::Write>(&self, f: &mut fmt::Formatter<W>) -> fmt::Result {
+        write!(f, "{} {}", self.share, self.net)
+    }
+}
+
+impl fmt::Display for HourFigures {
+    ghost output = { λ h. Some (hour_text h) };
+
+    fn fmt<W: fmt::Write>(&self, f: &mut fmt::Formatter<W>) -> fmt::Result {
+        write!(f, "{} {} {}", self.billed, self.committed, self.unassigned)
+    }
 }
 
 impl PlantFigures {

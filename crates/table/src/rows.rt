@@ -21,6 +21,7 @@ impl<T: Copy, const N: usize> Rows<T, N> {
         Rows { count: 0, rows }
     }
 
+    // No proof follows a part of an array that a method lends for writing, so writers cut `rows[..entered]` themselves.
     /// The rows that are entered.
     pub fn entered(&self) -> &[T]
         ensures value { result.now ≡ take (min self.now.count N) self.now.rows }

@@ -33,23 +33,12 @@ pub struct Figures {
     hour: HourFigures,
 }
 
-// The hour cases print these fields too, but after other words and with the number of each row.
 impl fmt::Display for Figures {
     fn fmt<W: fmt::Write>(&self, f: &mut fmt::Formatter<W>) -> fmt::Result {
-        let Figures {
-            unit: u,
-            plant: p,
-            buyer: b,
-            hour: h,
-        } = self;
-        writeln!(f, "unit {} {} {}", u.allocated, u.billed, u.payment)?;
-        writeln!(
-            f,
-            "plant {} {} {} {} {} {}",
-            p.committed, p.allocated, p.run, p.support, p.rate, p.cost
-        )?;
-        writeln!(f, "buyer {} {}", b.share, b.net)?;
-        writeln!(f, "hour {} {} {}", h.billed, h.committed, h.unassigned)
+        writeln!(f, "unit {}", self.unit)?;
+        writeln!(f, "plant {}", self.plant)?;
+        writeln!(f, "buyer {}", self.buyer)?;
+        writeln!(f, "hour {}", self.hour)
     }
 }
 
