@@ -21,6 +21,13 @@ pub struct ClosedHour<'b> {
 // The methods take a reading's parameters one by one: they are the public calls. That the header stays stands in the
 // contract that isn't `ReadingTaken`'s, as in the open hour's.
 impl<'b> ClosedHour<'b> {
+    /// The header by which the hour will be settled.
+    pub fn header(&self) -> Header
+        ensures { result ≡ self.now.header }
+    {
+        self.header
+    }
+
     /// Takes a reading: answers the number of the row that it changed, or what turned it down.
     pub fn read(&mut self, reading: Reading) -> Result<u32, BookRefusal>
         ensures { ReadingTaken reading result self.old self.new }

@@ -22,6 +22,13 @@ pub struct OpenHour<'b> {
 // they are the public calls. `feeds` stays a number, since callers may give any. That the header stays stands in each
 // public contract that isn't `EntryTaken`'s: a record of that clause alone would be no plainer.
 impl<'b> OpenHour<'b> {
+    /// The header by which the hour will be settled.
+    pub fn header(&self) -> Header
+        ensures { result ≡ self.now.header }
+    {
+        self.header
+    }
+
     /// Takes an entry: answers the number of the row that it made or changed, or what turned it down.
     pub fn enter(&mut self, entry: Entry) -> Result<u32, BookRefusal>
         ensures { EntryTaken entry result self.old self.new }

@@ -1,0 +1,72 @@
+// Compares what hourlist prints with the stored cases: hour files, each with the text that a second calculation gives.
+#![tactic(auto)]
+
+use anyhow::{Context, Result, ensure};
+use book::Book;
+use comparing::Tally;
+use hourfile::{Cause, FileFault};
+use listing::{ListError, list_hour, printed};
+use std::alloc::{AllocError, Global};
+use std::fs;
+
+// The greatest number with three digits.
+const MOST_CASES: u32 = 999;
+
+// What the bytes of a buffer are before it is used.
+const UNUSED: u8 = 7;
+
+fn contents(rt: &HostRuntime, name: &str) -> Result<Vec<u8>> {
+    fs::read(rt, name).context(format_args!("reading {name}"))
+}
+
+// Whether a buffer of so many bytes, too few for the file's listing, is refused and stays as it was.
+fn refuses_buffer(heap: Global, file: &[u8], bytes: usize) -> Result<bool, AllocError> {
+    let mut book = Book::new();
+    let mut out = vec![in heap; UNUSED; bytes]?;
+    let listed = list_hour(heap, &mut book, file, out.as_mut_slice());
+    let Err(ListError::Fault(fault)) = listed.end else {
+        return Ok(false);
+    };
+    let short = FileFault {
+        cause: Cause::ShortBuffer,
+        place: u32::try_from(file.len()).unwrap_or(u32::MAX),
+    };
+    Ok(fault == short && out.iter().all(|byte| *byte == UNUSED))
+}
+
+// Whether the text stored for a case is what is printed for its file. A listing is tried with a buffer too short by one.
+fn is_same(heap: Global, file: &[u8], want: &[u8]) -> Result<bool, AllocError> {
+    let text = printed(heap, file)?;
+    if text.as_slice() != want {
+        return Ok(false);
+    }
+    match want {
+        [] => Ok(false),
+        [b'R', ..] => Ok(true),
+        _ => refuses_buffer(heap, file, want.len() - 1),
+    }
+}
+
+// Compares the cases from number 1 on, up to the first whose file is not there.
+fn compare_cases(rt: &HostRuntime) -> Result<Tally> {
+    let mut tally = Tally::default();
+    for number in 1..=MOST_CASES {
+        let name = format!(in rt.alloc(); "{number:03}.hour")?;
+        if !fs::exists(rt, name.as_str())? {
+            break;
+        }
+        let file = contents(rt, name.as_str())?;
+        let name = format!(in rt.alloc(); "{number:03}.want")?;
+        let want = contents(rt, name.as_str())?;
+        tally.note(is_same(rt.alloc(), file.as_slice(), want.as_slice())?);
+    }
+    Ok(tally)
+}
+
+fn main(rt: HostRuntime) -> Result<()> {
+    let tally = compare_cases(&rt)?;
+    println!(rt; "{} hour files, {} differ", tally.compared, tally.differ)?;
+    ensure!(tally.compared != 0, "there are no hour files");
+    ensure!(tally.differ == 0, "{} hour files differ", tally.differ);
+    Ok(())
+}

@@ -1,0 +1,4 @@
+pub mod Values
+pub mod StepLists
+pub mod Spelling
+pub mod Advancing

@@ -1,0 +1,5 @@
+pub mod Words
+pub mod Faults
+pub mod Calls
+pub mod Format
+pub mod Reading

@@ -1,0 +1,41 @@
+// The step lists of a competitive unit.
+ghost use Rattle.std.specs.Prelude.{◌≡◌, ◌≤◌, ◌/◌, length, take};
+ghost use Rattle.curves.specs.Refusals.{stepped_made};
+ghost use Rattle.hourfile.specs.Words.{words};
+ghost use Rattle.hourfile.specs.Calls.{step_at, steps_of};
+
+use crate::words::{Word, value_at};
+use curves::{CurveRefusal, Step, Stepped};
+use std::array;
+
+// The most steps of a list.
+const MOST_STEPS: usize = 10;
+
+// The step at a place of a list: its width and its price.
+fn step_at(values: &[Word], place: usize) -> Step
+    requires { place ≤ 10 }
+    ensures { result ≡ step_at (words values.now) place }
+{
+    Step {
+        width: value_at(values, 2 * place),
+        price: value_at(values, 2 * place + 1),
+    }
+}
+
+// The first ten steps of a list.
+fn first_steps(values: &[Word]) -> [Step; MOST_STEPS]
+    ensures { length values.now / 2 ≤ 10 → take (length values.now / 2) result ≡ steps_of (words values.now) }
+{
+    array::from_fn(|place| step_at(values, place))
+}
+
+/// A curve of the steps of some values, or the refusal of their list.
+pub fn stepped<const RISES: bool>(values: &[Word]) -> Result<Stepped<RISES>, CurveRefusal>
+    ensures { result ≡ stepped_made RISES (steps_of (words values.now)) }
+{
+    let count = values.len() / 2;
+    if count > MOST_STEPS {
+        return Err(CurveRefusal::Steps);
+    }
+    Stepped::new(&first_steps(values)[..count])
+}

@@ -1,0 +1,4 @@
+pub mod Lines
+pub mod Filed
+pub mod Showing
+pub mod Unique

@@ -1,0 +1,13 @@
+use Rattle.std.proofs.Common.{◌≡◌, ◌+◌, ◌-◌, ◌≤◌, ◌++◌}
+use Rattle.std.specs.List.{flat_map, range_with_len}
+use Rattle.std.specs.String.{string_bytes}
+use Rattle.listing.specs.Listing.{line_of, count_of}
+use Rattle.listing.specs.Rows.{row_in}
+use Rattle.listing.proofs.text.write_rows.Given as goal
+
+-- the rows before this number are written, and there are as many
+abbrev pub invariant-loop-number : goal.invariant-loop-number
+invariant-loop-number l =
+    let t = l.hour.table.now in
+    (1 ≤ l.number) × (l.number ≤ count_of l.kind t + 1)
+    × (string_bytes l.text ≡ string_bytes l.fn.text ++ flat_map (λ number. line_of (row_in l.kind number t)) (range_with_len 1 (l.number - 1)))

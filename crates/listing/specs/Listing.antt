@@ -1,0 +1,39 @@
+-- The listing of a settled hour.
+use Rattle.std.specs.Prelude.{◌≡◌, ℕ, ◌<◌, ◌≤◌, min, List, [], ◌++◌, length, drop, codes, Option, Some, None, Ok, Err, Result}
+use Rattle.std.specs.List.{flat_map, range_with_len}
+use Rattle.table.specs.Texts.{hour_text}
+use Rattle.table.specs.declared.records.Table.{Table}
+use Rattle.listing.specs.Rows.{row_text, row_in}
+use Rattle.listing.specs.declared.errors.ListingError.{ListingError}
+use Rattle.listing.specs.declared.errors.ListingError.TheVariants.{ShortBuffer, Memory}
+use Rattle.listing.specs.declared.rows.Kind.{Kind}
+use Rattle.listing.specs.declared.rows.Kind.TheVariants.{Competitive, Guaranteed, Plants, Buyers}
+use Rattle.listing.specs.declared.rows.Row.{Row}
+
+-- how many rows of a kind there are
+abbrev pub count_of : Kind → Table → ℕ
+count_of Competitive t = min t.competitive.count 128
+count_of Guaranteed t = min t.guaranteed.count 128
+count_of Plants t = min t.plants.count 32
+count_of Buyers t = min t.buyers.count 64
+
+-- a row and a line feed
+abbrev pub line_of : Option Row → List ℕ
+line_of None = []
+line_of (Some row) = row_text row ++ codes "\n"
+
+-- the rows of a kind, by rising number
+abbrev pub lines_of : Kind → Table → List ℕ
+lines_of kind t = flat_map (λ number. line_of (row_in kind number t)) (range_with_len 1 (count_of kind t))
+
+-- competitive units, guaranteed units, plants, buyers, and the hour
+abbrev pub listing_of : Table → List ℕ
+listing_of t =
+    lines_of Competitive t ++ (lines_of Guaranteed t ++ (lines_of Plants t ++ (lines_of Buyers t ++
+    (codes "H " ++ (hour_text t.figures ++ codes "\n")))))
+
+-- the text stands at the buffer's start and the rest is as it was; or nothing is written
+abbrev pub ListingWritten : List ℕ → List ℕ → Result ℕ ListingError → List ℕ → Type 0
+ListingWritten text before (Ok n) after = (n ≡ length text) × ((n ≤ length before) × (after ≡ text ++ drop n before))
+ListingWritten text before (Err ShortBuffer) after = (length before < length text) × (after ≡ before)
+ListingWritten text before (Err Memory) after = after ≡ before

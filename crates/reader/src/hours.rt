@@ -1,0 +1,102 @@
+// The calls that records make on an hour.
+ghost use Rattle.std.specs.Prelude.{◌≡◌};
+ghost use Rattle.hourfile.specs.Words.{words};
+ghost use Rattle.settling.specs.Headers.{checked};
+ghost use Rattle.settling.specs.Settled.{Settled};
+ghost use Rattle.table.specs.Closing.{Closed};
+ghost use Rattle.hourfile.specs.Format.{plain};
+ghost use Rattle.hourfile.specs.Calls.{entry_of, reading_of};
+ghost use Rattle.curves.specs.Kinds.{stepped_offer_price, stepped_cost_price, tariff_price};
+ghost use Rattle.settling.specs.Figures.{pay_by};
+ghost use Rattle.reader.specs.Calls.{unit_end, unit_answer, after_unit, RowsAfter};
+ghost use Rattle.reader.specs.Holds.{tariffs};
+ghost use Rattle.reader.specs.Progress.{header_of};
+ghost use Rattle.reader.specs.Reached.{entry_end, entry_after, reading_end, reading_after};
+ghost use Rattle.reader.specs.Rows.{rows_of, offers_of};
+
+use crate::kept::{UNITS, UnitRows};
+use crate::units::unit_row;
+use book::{BookRefusal, ClosedHour, Header, OpenHour, SettledHour};
+use curves::Tariff;
+use hourfile::{Cause, FileFault, Record, Word, value_at};
+
+/// The header of a record's values.
+pub(crate) fn header_of(values: &[Word]) -> Result<Header, BookRefusal>
+    ensures { result ≡ checked (header_of (words values.now)) }
+{
+    Header::new(
+        value_at(values, 0),
+        value_at(values, 1),
+        value_at(values, 2),
+        value_at(values, 3),
+        value_at(values, 4),
+    )
+}
+
+/// Makes the entry of a record, if it is one.
+pub(crate) fn enter(hour: &mut OpenHour, given: &Record) -> Result<(), FileFault>
+    ensures answer { result ≡ entry_end (entry_of (plain given.now)) hour.old.table.now }
+    ensures after { hour.new.table.now ≡ entry_after (entry_of (plain given.now)) hour.old.table.now }
+    ensures header { hour.new.header ≡ hour.old.header }
+{
+    let entry = given.entry().ok_or(Cause::Misplaced)?;
+    hour.enter(entry)?;
+    Ok(())
+}
+
+/// Enters a competitive unit with its rows, by a record's values.
+pub(crate) fn enter_unit(
+    hour: &mut OpenHour,
+    rows: &mut UnitRows,
+    values: &[Word],
+) -> Result<(), FileFault>
+    ensures answer { result ≡ unit_end (unit_answer (words values.now) hour.old.table.now) }
+    ensures after { hour.new.table.now ≡ after_unit (words values.now) hour.old.table.now }
+    ensures header { hour.new.header ≡ hour.old.header }
+    ensures rows { RowsAfter (unit_answer (words values.now) hour.old.table.now) rows.old rows.new }
+{
+    let made = unit_row(values);
+    let plant = value_at(values, 0);
+    let declared = value_at(values, 1);
+    let internal = value_at(values, 2);
+    let (_, row) = hour.add_priced(plant, declared, internal, made)?;
+    rows.add(row);
+    Ok(())
+}
+
+/// Takes the reading of a record, if it is one.
+pub(crate) fn read(hour: &mut ClosedHour, given: &Record) -> Result<(), FileFault>
+    ensures answer { result ≡ reading_end (reading_of (plain given.now)) hour.old.table.now }
+    ensures after { hour.new.table.now ≡ reading_after (reading_of (plain given.now)) hour.old.table.now }
+    ensures header { hour.new.header ≡ hour.old.header }
+{
+    let reading = given.reading().ok_or(Cause::Misplaced)?;
+    hour.read(reading)?;
+    Ok(())
+}
+
+// Each guaranteed unit's offer: the header's tariff.
+fn tariffs(header: &Header) -> [Tariff; UNITS]
+    ensures { result ≡ tariffs header.now }
+{
+    let rate = header.tariff();
+    [Tariff { rate }; UNITS]
+}
+
+/// Closes the hour by the offers of its rows.
+pub(crate) fn close<'b>(hour: OpenHour<'b>, rows: &UnitRows) -> ClosedHour<'b>
+    ensures closed { Closed stepped_offer_price (offers_of (rows_of rows.now)) tariff_price (tariffs hour.entry.header) hour.entry.table.now result.table.now }
+    ensures header { result.header ≡ hour.entry.header }
+{
+    let header = hour.header();
+    let offers = rows.offers();
+    hour.close(&offers[..rows.count], &tariffs(&header))
+}
+
+/// Settles the hour by its rows.
+pub(crate) fn settle<'b>(hour: ClosedHour<'b>, rows: &UnitRows) -> SettledHour<'b>
+    ensures { Settled hour.entry.header (pay_by stepped_offer_price stepped_cost_price (rows_of rows.now) tariff_price (tariffs hour.entry.header) hour.entry.header) hour.entry.table.now result.table.now }
+{
+    let header = hour.header();
+    hour.settle(rows.kept(), &tariffs(&header))
+}

@@ -1,0 +1,20 @@
+// The price rows that are kept while a file is read. In a file of their own, since definitions about them may not lead back.
+ghost use Rattle.std.specs.Prelude.{◌≡◌, ◌≤◌, length};
+
+use book::PriceRow;
+use curves::{SteppedCost, SteppedOffer};
+
+/// How many competitive units an hour has room for.
+pub(crate) const UNITS: usize = 128;
+
+/// The offer and the cost curve of a competitive unit.
+pub type UnitRow = PriceRow<SteppedOffer, SteppedCost>;
+
+/// The rows of the competitive units, in the order of their numbers.
+#[derive(Drop)]
+pub struct UnitRows {
+    pub(crate) count: usize,
+    pub(crate) rows: [UnitRow; UNITS],
+    ghost few: { count ≤ 128 },
+    ghost long: { length rows ≡ 128 },
+}
