@@ -250,7 +250,7 @@ class Cases(unittest.TestCase):
     def test_stored_files(self):
         files = file_cases.stored_files()
         self.assertGreaterEqual(len(files), 320)
-        self.assertEqual(sum(len(data) > file_cases.MOST_STORED for data in files), 1)
+        self.assertEqual(sum(len(data) > file_cases.MOST_STORED for data in files), 3)
 
 
 if __name__ == "__main__":
