@@ -22,6 +22,7 @@ with_rows plants competitive guaranteed buyers figures t = record {
   guaranteed = guaranteed;
   buyers = record { count = t.buyers.count; rows = buyers };
   commitments = t.commitments;
+  sold = t.sold;
   figures = figures;
 }
 

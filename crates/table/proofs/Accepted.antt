@@ -1,9 +1,10 @@
 -- Histories of accepted entries: what the rows of refusals keep true of them.
 use Rattle.std.proofs.Common.{◌≡◌, ℕ, ◌+◌, ◌<◌, ◌≤◌, Bool, true, false, cond, ◌&&◌, ◌||◌, eqb, ltb, leb, List, [], ◌∷◌, ◌++◌, Some, None, Option, sym, refl, ap, ◌∙◌, ⊎_elim, arith}
 use Rattle.std.proofs.lemmas.Bool.{cases_eq, eq-eqb, ne_eqb, cond-true, cond-false, cond_both, ltb-false, and_from, true≢false}
+use Rattle.table.proofs.Sold.{sold_push}
 use Rattle.table.proofs.Standing.{no_row, there}
 use Rattle.table.specs.Effects.{unless}
-use Rattle.table.specs.Entries.{View, rows, sold_by, lacks}
+use Rattle.table.specs.Entries.{View, rows, lacks}
 use Rattle.table.specs.History.{commitments_of, sold_in, plants_in, units_in, unit_in, buyers_in, view_in, next_history, accepted, Proper}
 use Rattle.table.specs.Rows.{new_unit, corrected, moved}
 use Rattle.table.specs.declared.entries.Entry.{Entry}
@@ -52,10 +53,6 @@ taken plant buyer volume v ok =
       buyer_high = b.1;
       fits = ltb-false 20000000 (v.sold plant + volume) under.0;
     }
-
-sold_push : (p : ℕ) (xs : List Commitment) (c : Commitment) → sold_by p (xs ++ (c ∷ [])) ≡ sold_by p xs + cond (eqb c.plant p) c.volume 0
-sold_push p [] c = omega arith
-sold_push p (x ∷ xs) c = omega (arith, sold_push p xs c)
 
 -- no plant sells more than 20,000,000
 pub sold_bound : (h : List Entry) → Proper h → (p : ℕ) → sold_in p h ≤ 20000000

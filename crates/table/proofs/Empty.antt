@@ -1,6 +1,9 @@
 -- An empty table stands for no entries and no readings.
-use Rattle.std.proofs.Common.{◌≡◌, ℕ, ◌<◌, [], None, refl, ap, arith}
-use Rattle.std.proofs.lemmas.List.{get_or-replicate, length-replicate}
+use Rattle.std.proofs.Common.{◌≡◌, ℕ, zero, suc, ◌<◌, [], None, replicate, refl, ap, ◌∙◌, ⊎_elim, arith}
+use Rattle.std.proofs.lemmas.List.{get_or-replicate, get_or_past, length-replicate}
+use Rattle.std.proofs.lemmas.Bool.{cases_lt}
+use Rattle.table.proofs.Sold.{sold_of}
+use Rattle.table.specs.Entries.{sold_at}
 use Rattle.table.specs.Closing.{unit_at}
 use Rattle.table.specs.History.{UnitsStand, Stands, empty_units, empty_table}
 use Rattle.table.specs.Metered.{Metered}
@@ -18,6 +21,12 @@ units_none g = record {
   rows = λ i lt. absurd (omega arith);
 }
 
+none_sold : (p : ℕ) → sold_at (replicate 32 0) p ≡ 0
+none_sold zero = refl
+none_sold (suc p) =
+    sold_of (replicate 32 0) p
+    ∙ ⊎_elim (λ past. get_or_past (replicate 32 0) p 0 (omega (arith, length-replicate {A = ℕ} 32 0))) (λ upto. get_or-replicate {A = ℕ} 32 p 0 0 (omega arith)) (cases_lt 31 p)
+
 pub empty_stands : Stands [] empty_table
 empty_stands = record {
   plants = record { room = omega arith; long = length-replicate {A = Plant} 32 (new_plant 0); counted = refl; rows = λ i lt. absurd (omega arith) };
@@ -25,6 +34,7 @@ empty_stands = record {
   guaranteed = units_none 2;
   buyers = record { room = omega arith; long = length-replicate {A = Buyer} 64 (new_buyer 0); counted = refl; rows = λ i lt. absurd (omega arith) };
   commitments = record { room = omega arith; long = length-replicate {A = Commitment} 768 (record { plant = 0; buyer = 0; volume = 0 }); counted = refl; rows = refl };
+  sold = record { long = length-replicate {A = ℕ} 32 0; sums = none_sold };
 }
 
 unread : (i : ℕ) → i < 128 → (unit_at empty_units i).reading ≡ None

@@ -9,7 +9,7 @@ use Rattle.table.specs.Closing.{unit_at, terms_of, SameUnits, Closed}
 use Rattle.table.specs.ClosingLaw.{group_in, share_one_in, share_two_in, amount_in, PlantLaw, ClosingLaw}
 use Rattle.table.specs.Effects.{unless, in_group, applied, after_entry, with_competitive, with_guaranteed}
 use Rattle.table.specs.Entries.{rows, view_of}
-use Rattle.table.specs.History.{units_in, unit_in, BuyersStand, CommitmentsStand, UnitsStand, Stands}
+use Rattle.table.specs.History.{units_in, unit_in, BuyersStand, CommitmentsStand, SoldStands, UnitsStand, Stands}
 use Rattle.table.specs.Metered.{Metered}
 use Rattle.table.specs.Readings.{reading_rows, applied_reading, after_reading}
 use Rattle.table.specs.Rows.{UnitTable, new_unit, new_buyer, read_use, changed, corrected, moved, with_reading, read_unit, kept_reading}
@@ -46,6 +46,7 @@ module _ {O P : Type 0} (prices1 : O → ℕ → ℕ) (offers1 : List O) (prices
     guaranteed = same_units 2 h t.guaranteed after.guaranteed closed.same2 s.guaranteed;
     buyers = subst (λ (x : Table). BuyersStand h x.buyers.count x.buyers.rows) (sym closed.rest) s.buyers;
     commitments = subst (λ (x : Table). CommitmentsStand h x.commitments.count x.commitments.rows) (sym closed.rest) s.commitments;
+    sold = subst (λ (x : Table). SoldStands h x.sold) (sym closed.rest) s.sold;
   }
 
   -- and the readings
@@ -110,6 +111,7 @@ applied_reading_stands (Competitive unit reading) h t s = record {
   guaranteed = s.guaranteed;
   buyers = s.buyers;
   commitments = s.commitments;
+  sold = s.sold;
 }
 applied_reading_stands (Guaranteed unit reading) h t s = record {
   plants = s.plants;
@@ -117,6 +119,7 @@ applied_reading_stands (Guaranteed unit reading) h t s = record {
   guaranteed = read_stands 2 h (kept_reading reading) unit t.guaranteed s.guaranteed;
   buyers = s.buyers;
   commitments = s.commitments;
+  sold = s.sold;
 }
 applied_reading_stands (Use buyer used) h t s = record {
   plants = s.plants;
@@ -129,6 +132,7 @@ applied_reading_stands (Use buyer used) h t s = record {
     rows = λ i lt. use-keeps t.buyers.rows (buyer - 1) used i ∙ s.buyers.rows i lt;
   };
   commitments = s.commitments;
+  sold = s.sold;
 }
 
 -- what holds of a table and of it after an accepted reading holds after any reading

@@ -1,7 +1,8 @@
--- Sums over the items that pass a test; what a plant has sold is one, over the commitments.
-use Rattle.std.proofs.Common.{◌≡◌, ℕ, ◌+◌, Bool, true, false, cond, List, [], ◌∷◌, filter, sum_by, refl, ap, ◌∙◌, sym, arith}
+-- Sums over the items that pass a test, and what a plant has sold.
+use Rattle.std.proofs.Common.{◌≡◌, ℕ, suc, ◌+◌, ◌-◌, get_or, Bool, true, false, cond, List, [], ◌∷◌, ◌++◌, eqb, filter, sum_by, refl, ap, ◌∙◌, sym, arith}
+use Rattle.std.proofs.lemmas.Bool.{cond-false, ne_eqb}
 use Rattle.std.proofs.lemmas.List.Sums.{sum_by-cons}
-use Rattle.table.specs.Entries.{volume_of, sold_by}
+use Rattle.table.specs.Entries.{sold_by, sold_at}
 use Rattle.table.specs.declared.records.Commitment.{Commitment}
 
 -- the items that pass a test; the others count nothing
@@ -14,6 +15,13 @@ sum_filter f p (x ∷ xs) =
     first true = sum_by-cons f x (filter p xs)
     first false = omega arith
 
-pub sold_sum : (plant : ℕ) (xs : List Commitment) → sum_by (volume_of plant) xs ≡ sold_by plant xs
-sold_sum plant [] = refl
-sold_sum plant (c ∷ cs) = sum_by-cons (volume_of plant) c cs ∙ ap (λ s. volume_of plant c + s) (sold_sum plant cs)
+-- what a plant has sold with one commitment more
+pub sold_push : (p : ℕ) (xs : List Commitment) (c : Commitment) → sold_by p (xs ++ (c ∷ [])) ≡ sold_by p xs + cond (eqb c.plant p) c.volume 0
+sold_push p [] c = omega arith
+sold_push p (x ∷ xs) c = omega (arith, sold_push p xs c)
+
+-- what a table holds of what the plant at a place has sold
+pub sold_of : (sold : List ℕ) (place : ℕ) → sold_at sold (suc place) ≡ get_or sold place 0
+sold_of sold place =
+    let back : suc place - 1 ≡ place = omega arith in
+    cond-false _ _ _ (ne_eqb (suc place) 0 (λ e. omega arith)) ∙ ap (λ k. get_or sold k 0) back

@@ -1,12 +1,13 @@
 -- A table goes on standing for the history of its accepted entries.
-use Rattle.std.proofs.Common.{◌≡◌, ℕ, ◌+◌, ◌-◌, ◌<◌, ◌≤◌, min, Bool, true, false, cond, ◌&&◌, ◌||◌, eqb, ltb, leb, List, [], ◌∷◌, ◌++◌, length, get_or, set, Some, None, Option, sym, refl, ap, ◌∙◌, subst, ⊎_elim, arith, length-append}
+use Rattle.std.proofs.Common.{◌≡◌, ℕ, zero, suc, ◌+◌, ◌-◌, ◌<◌, ◌≤◌, min, Bool, true, false, cond, ◌&&◌, ◌||◌, eqb, ltb, leb, List, [], ◌∷◌, ◌++◌, length, get_or, set, Some, None, Option, sym, refl, ap, ◌∙◌, subst, ◌⊎◌, ⊎_elim, arith, length-append}
 use Rattle.std.proofs.lemmas.List.{get_or-set_same, get_or-set_other, length-set, take_more_set}
 use Rattle.std.proofs.lemmas.Bool.{cases_eq, eq-eqb, ne_eqb, cond-true, cond-false, leb-false, ltb-false, eqb-false, or_parts, true≢false}
+use Rattle.table.proofs.Sold.{sold_push, sold_of}
 use Rattle.table.proofs.Views.{rows_same}
 use Rattle.table.specs.Closing.{unit_at, terms_of}
 use Rattle.table.specs.Effects.{in_group, applied, after_entry, unless}
-use Rattle.table.specs.Entries.{lacks, lacks_unit, rows, view_of}
-use Rattle.table.specs.History.{adds_plant, adds_unit, adds_buyer, plants_in, units_in, buyers_in, commitments_of, loss_in, buyer_loss_in, unit_in, UnitsStand, PlantsStand, BuyersStand, CommitmentsStand, Stands, view_in, next_history}
+use Rattle.table.specs.Entries.{lacks, lacks_unit, rows, view_of, sold_by, sold_at}
+use Rattle.table.specs.History.{adds_plant, adds_unit, adds_buyer, plants_in, units_in, buyers_in, commitments_of, loss_in, buyer_loss_in, unit_in, UnitsStand, PlantsStand, BuyersStand, CommitmentsStand, SoldStands, sold_in, Stands, view_in, next_history}
 use Rattle.table.specs.Rows.{UnitTable, new_plant, new_buyer, new_unit, added, changed, corrected, moved}
 use Rattle.table.specs.declared.entries.Entry.{Entry}
 use Rattle.table.specs.declared.entries.Entry.TheVariants.{AddPlant, AddCompetitive, AddGuaranteed, Correct, PutAside, TakeBack, AddBuyer, Commit}
@@ -49,6 +50,12 @@ commitments_stay e h count rows same s =
       counted = omega (arith, s.counted);
       rows = s.rows ∙ sym same;
     }
+
+pub sold_stay : (e : Entry) (h : List Entry) (sold : List ℕ) → commitments_of (e ∷ h) ≡ commitments_of h → SoldStands h sold → SoldStands (e ∷ h) sold
+sold_stay e h sold same s = record {
+  long = s.long;
+  sums = λ p. s.sums p ∙ sym (ap (sold_by p) same);
+}
 
 pub units_stay : (g : ℕ) (e : Entry) (h : List Entry) (t : UnitTable) → adds_unit g e ≡ 0 → ((i : ℕ) → unit_in g i (e ∷ h) ≡ unit_in g i h) → UnitsStand g h t → UnitsStand g (e ∷ h) t
 units_stay g e h t none same s = record {
@@ -146,6 +153,34 @@ there number count e =
     let parts = or_parts (eqb number 0) (ltb count number) e in
     (omega (arith, eqb-false number 0 parts.0), ltb-false count number parts.1)
 
+-- what a plant has sold grows by the commitment's volume, and that of the others stays
+pub sold_add : (plant buyer volume : ℕ) (h : List Entry) (sold : List ℕ) → 1 ≤ plant → plant ≤ 32 → SoldStands h sold → SoldStands (Commit plant buyer volume ∷ h) (set sold (plant - 1) (get_or sold (plant - 1) 0 + volume))
+sold_add plant buyer volume h sold low high s =
+    let c : Commitment = record { plant = plant; buyer = buyer; volume = volume } in
+    record {
+      long = length-set sold (plant - 1) _ ∙ s.long;
+      sums = λ p. each p (sold_push p (commitments_of h) c) (cases_eq p plant);
+    }
+  where
+    each : (p : ℕ) → sold_in p (Commit plant buyer volume ∷ h) ≡ sold_in p h + cond (eqb plant p) volume 0 → (p ≡ plant) ⊎ (p ≡ plant → ⊥) → sold_at (set sold (plant - 1) (get_or sold (plant - 1) 0 + volume)) p ≡ sold_in p (Commit plant buyer volume ∷ h)
+    each zero more same =
+        let none : cond (eqb plant 0) volume 0 ≡ 0 = cond-false _ _ _ (ne_eqb plant 0 (λ e. omega arith)) in
+        omega (arith, more, none, s.sums 0)
+    each (suc p) more same = ⊎_elim
+        (λ (here : suc p ≡ plant).
+        let place : p ≡ plant - 1 = omega arith in
+        let own : cond (eqb plant (suc p)) volume 0 ≡ volume = cond-true _ _ _ (eq-eqb plant (suc p) (sym here)) in
+        let wrote : get_or (set sold (plant - 1) (get_or sold (plant - 1) 0 + volume)) p 0 ≡ get_or sold p 0 + volume =
+        subst (λ k. get_or (set sold (plant - 1) (get_or sold (plant - 1) 0 + volume)) k 0 ≡ get_or sold k 0 + volume) (sym place)
+        (get_or-set_same sold (plant - 1) _ 0 (omega (arith, s.long))) in
+        omega (arith, more, own, wrote, sold_of sold p, sold_of (set sold (plant - 1) (get_or sold (plant - 1) 0 + volume)) p, s.sums (suc p)))
+        (λ (other : suc p ≡ plant → ⊥).
+        let none : cond (eqb plant (suc p)) volume 0 ≡ 0 = cond-false _ _ _ (ne_eqb plant (suc p) (λ e. other (sym e))) in
+        let kept : get_or (set sold (plant - 1) (get_or sold (plant - 1) 0 + volume)) p 0 ≡ get_or sold p 0 =
+        get_or-set_other sold (plant - 1) p _ 0 (λ e. other (omega arith)) in
+        omega (arith, more, none, kept, sold_of sold p, sold_of (set sold (plant - 1) (get_or sold (plant - 1) 0 + volume)) p, s.sums (suc p)))
+        same
+
 module _ (e : Entry) (group unit : ℕ) (f : UnitRecord → UnitRecord) (h : List Entry) (t : Table) (s : Stands h t) (no-plant : adds_plant e ≡ 0) (no-unit : (g : ℕ) → adds_unit g e ≡ 0) (no-buyer : adds_buyer e ≡ 0) (kept : commitments_of (e ∷ h) ≡ commitments_of h) (losses : (i : ℕ) → loss_in i (e ∷ h) ≡ loss_in i h) (buyer-losses : (i : ℕ) → buyer_loss_in i (e ∷ h) ≡ buyer_loss_in i h) (terms : (u : UnitRecord) → terms_of (f u) ≡ f (terms_of u)) (units : (g i : ℕ) → unit_in g i (e ∷ h) ≡ cond (eqb g group && eqb i unit) (f (unit_in g i h)) (unit_in g i h)) where
   in_group_lem : (g i : ℕ) → g ≡ group → unit_in g i (e ∷ h) ≡ cond (eqb i unit) (f (unit_in g i h)) (unit_in g i h)
   in_group_lem g i same = units g i ∙ ap (λ b. cond (b && eqb i unit) (f (unit_in g i h)) (unit_in g i h)) (eq-eqb g group same)
@@ -165,6 +200,7 @@ module _ (e : Entry) (group unit : ℕ) (f : UnitRecord → UnitRecord) (h : Lis
         guaranteed = units_stay 2 e h t.guaranteed (no-unit 2) (λ i. off_group 2 i (λ same. omega arith)) s.guaranteed;
         buyers = buyers_stay e h _ _ no-buyer buyer-losses s.buyers;
         commitments = commitments_stay e h _ _ kept s.commitments;
+        sold = sold_stay e h _ kept s.sold;
       })
       (λ (not-one : group ≡ 1 → ⊥). ⊎_elim
       (λ (two : group ≡ 2).
@@ -175,6 +211,7 @@ module _ (e : Entry) (group unit : ℕ) (f : UnitRecord → UnitRecord) (h : Lis
         guaranteed = units_change 2 e h t.guaranteed unit f terms at.0 (omega (arith, at.1, s.guaranteed.count)) (no-unit 2) (λ i. in_group_lem 2 i (sym two)) s.guaranteed;
         buyers = buyers_stay e h _ _ no-buyer buyer-losses s.buyers;
         commitments = commitments_stay e h _ _ kept s.commitments;
+        sold = sold_stay e h _ kept s.sold;
       })
       (λ (neither : group ≡ 2 → ⊥). absurd (true≢false (sym (cond-false _ _ _ (ne_eqb group 1 not-one) ∙ cond-false _ _ _ (ne_eqb group 2 neither)) ∙ found)))
       (cases_eq group 2))
@@ -190,6 +227,7 @@ applied_stands (AddPlant loss) h t s ok =
       guaranteed = units_stay 2 (AddPlant loss) h t.guaranteed refl (λ i. refl) s.guaranteed;
       buyers = buyers_stay (AddPlant loss) h _ _ refl (λ i. refl) s.buyers;
       commitments = commitments_stay (AddPlant loss) h _ _ refl s.commitments;
+      sold = sold_stay (AddPlant loss) h _ refl s.sold;
     }
 applied_stands (AddCompetitive plant declared internal) h t s ok =
     let e = AddCompetitive plant declared internal in
@@ -200,6 +238,7 @@ applied_stands (AddCompetitive plant declared internal) h t s ok =
       guaranteed = units_stay 2 e h t.guaranteed refl (λ i. refl) s.guaranteed;
       buyers = buyers_stay e h _ _ refl (λ i. refl) s.buyers;
       commitments = commitments_stay e h _ _ refl s.commitments;
+      sold = sold_stay e h _ refl s.sold;
     }
 applied_stands (AddGuaranteed plant declared seasonal internal feeds) h t s ok =
     let e = AddGuaranteed plant declared seasonal internal feeds in
@@ -210,6 +249,7 @@ applied_stands (AddGuaranteed plant declared seasonal internal feeds) h t s ok =
       guaranteed = units_add 2 e h t.guaranteed (new_unit plant declared (Some seasonal) internal feeds) (omega arith) refl (λ i. refl) s.guaranteed;
       buyers = buyers_stay e h _ _ refl (λ i. refl) s.buyers;
       commitments = commitments_stay e h _ _ refl s.commitments;
+      sold = sold_stay e h _ refl s.sold;
     }
 applied_stands (Correct group unit declared) h t s ok =
     change_stands (Correct group unit declared) group unit (corrected declared) h t s refl (λ g. refl) refl refl (λ i. refl) (λ i. refl) (λ u. refl) (λ g i. refl) (no_row _ _ _ ok).0
@@ -225,12 +265,14 @@ applied_stands (AddBuyer loss) h t s ok =
       guaranteed = units_stay 2 (AddBuyer loss) h t.guaranteed refl (λ i. refl) s.guaranteed;
       buyers = buyers_add loss h t.buyers.count t.buyers.rows (omega arith) s.buyers;
       commitments = commitments_stay (AddBuyer loss) h _ _ refl s.commitments;
+      sold = sold_stay (AddBuyer loss) h _ refl s.sold;
     }
 applied_stands (Commit plant buyer volume) h t s ok =
     let e = Commit plant buyer volume in
     let limited : Option BookRefusal = cond (eqb volume 0 || ltb 20000000 volume) (Some Energy) (cond (ltb 20000000 ((view_of t).sold plant + volume)) (Some Commitments) None) in
     let roomy : Option BookRefusal = cond (leb 768 (view_of t).commitments) (Some Full) limited in
     let known = no_row (lacks plant (view_of t).plants) NoPlant (cond (lacks buyer (view_of t).buyers) (Some NoBuyer) roomy) ok in
+    let plant-there = there plant (min t.plants.count 32) known.0 in
     let bought = no_row (lacks buyer (view_of t).buyers) NoBuyer roomy known.1 in
     let fits = leb-false 768 (min t.commitments.count 768) (no_row (leb 768 (view_of t).commitments) Full limited bought.1).0 in
     record {
@@ -239,6 +281,7 @@ applied_stands (Commit plant buyer volume) h t s ok =
       guaranteed = units_stay 2 e h t.guaranteed refl (λ i. refl) s.guaranteed;
       buyers = buyers_stay e h _ _ refl (λ i. refl) s.buyers;
       commitments = commitments_add plant buyer volume h t.commitments.count t.commitments.rows (omega arith) s.commitments;
+      sold = sold_add plant buyer volume h t.sold plant-there.0 (omega (arith, plant-there.1)) s.sold;
     }
 
 -- after any entry, accepted or refused, the table stands for the history of the accepted

@@ -1,8 +1,8 @@
 -- The rows of refusals see the same of a table and of the history that it stands for.
-use Rattle.std.proofs.Common.{◌≡◌, ℕ, min, List, length, take, ap, ◌∙◌, arith}
+use Rattle.std.proofs.Common.{◌≡◌, ℕ, min, List, length, ap, ◌∙◌, arith}
 use mathlib.Core.Path.{fun_ext}
-use Rattle.table.specs.Entries.{View, view_of, rows, sold_by}
-use Rattle.table.specs.History.{plants_in, units_in, buyers_in, commitments_of, sold_in, view_in, Stands, StandsInSum}
+use Rattle.table.specs.Entries.{View, view_of, rows, sold_at}
+use Rattle.table.specs.History.{plants_in, units_in, buyers_in, commitments_of, view_in, Stands, StandsInSum}
 use Rattle.table.specs.declared.entries.Entry.{Entry}
 use Rattle.table.specs.declared.records.Table.{Table}
 
@@ -14,16 +14,13 @@ view_same h t s =
     let c : min t.guaranteed.count 128 ≡ units_in 2 h = omega (arith, s.guaranteed.count, s.guaranteed.room) in
     let d : min t.buyers.count 64 ≡ buyers_in h = omega (arith, s.buyers.counted, s.buyers.room) in
     let e : min t.commitments.count 768 ≡ length (commitments_of h) = omega (arith, s.commitments.counted, s.commitments.room) in
-    let whole : min t.commitments.count 768 ≡ t.commitments.count = omega (arith, s.commitments.counted, s.commitments.room) in
-    let f : (p : ℕ) → sold_by p (take (min t.commitments.count 768) t.commitments.rows) ≡ sold_in p h = λ p.
-    ap (λ n. sold_by p (take n t.commitments.rows)) whole ∙ ap (sold_by p) s.commitments.rows in
-    let sold = λ (p : ℕ). sold_by p (take (min t.commitments.count 768) t.commitments.rows) in
+    let sold = sold_at t.sold in
     ap (λ x. made x (min t.competitive.count 128) (min t.guaranteed.count 128) (min t.buyers.count 64) (min t.commitments.count 768) sold) a
     ∙ ap (λ x. made (plants_in h) x (min t.guaranteed.count 128) (min t.buyers.count 64) (min t.commitments.count 768) sold) b
     ∙ ap (λ x. made (plants_in h) (units_in 1 h) x (min t.buyers.count 64) (min t.commitments.count 768) sold) c
     ∙ ap (λ x. made (plants_in h) (units_in 1 h) (units_in 2 h) x (min t.commitments.count 768) sold) d
     ∙ ap (λ x. made (plants_in h) (units_in 1 h) (units_in 2 h) (buyers_in h) x sold) e
-    ∙ ap (made (plants_in h) (units_in 1 h) (units_in 2 h) (buyers_in h) (length (commitments_of h))) (fun_ext f)
+    ∙ ap (made (plants_in h) (units_in 1 h) (units_in 2 h) (buyers_in h) (length (commitments_of h))) (fun_ext s.sold.sums)
 
 -- so the sums of commitments are the same
 pub stands_in_sum : (h : List Entry) (t : Table) → Stands h t → StandsInSum h t

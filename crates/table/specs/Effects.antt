@@ -1,5 +1,5 @@
 -- What an entry answers, and what the table then holds.
-use Rattle.std.specs.Prelude.{ℕ, ◌+◌, true, false, cond, List, [], ◌∷◌, Some, None, Ok, Err, Option, Result, ◌==◌, slice_set}
+use Rattle.std.specs.Prelude.{ℕ, ◌+◌, ◌-◌, true, false, cond, List, [], ◌∷◌, Some, None, Ok, Err, Option, Result, ◌==◌, slice_index, slice_set}
 use Rattle.curves.specs.declared.refusals.CurveRefusal.{CurveRefusal}
 use Rattle.table.specs.Entries.{rows, view_of}
 use Rattle.table.specs.Rows.{UnitTable, new_plant, new_unit, new_buyer, corrected, moved, added, changed}
@@ -21,6 +21,7 @@ with_plants count rows t = record {
   guaranteed = t.guaranteed;
   buyers = t.buyers;
   commitments = t.commitments;
+  sold = t.sold;
   figures = t.figures;
 }
 
@@ -31,6 +32,7 @@ with_competitive units t = record {
   guaranteed = t.guaranteed;
   buyers = t.buyers;
   commitments = t.commitments;
+  sold = t.sold;
   figures = t.figures;
 }
 
@@ -41,6 +43,7 @@ with_guaranteed units t = record {
   guaranteed = units;
   buyers = t.buyers;
   commitments = t.commitments;
+  sold = t.sold;
   figures = t.figures;
 }
 
@@ -51,6 +54,7 @@ with_buyers count rows t = record {
   guaranteed = t.guaranteed;
   buyers = record { count = count; rows = rows };
   commitments = t.commitments;
+  sold = t.sold;
   figures = t.figures;
 }
 
@@ -61,8 +65,24 @@ with_commitments count rows t = record {
   guaranteed = t.guaranteed;
   buyers = t.buyers;
   commitments = record { count = count; rows = rows };
+  sold = t.sold;
   figures = t.figures;
 }
+
+abbrev pub with_sold : List ℕ → Table → Table
+with_sold sold t = record {
+  plants = t.plants;
+  competitive = t.competitive;
+  guaranteed = t.guaranteed;
+  buyers = t.buyers;
+  commitments = t.commitments;
+  sold = sold;
+  figures = t.figures;
+}
+
+-- what the plant of a number has sold grows by a volume
+abbrev pub sold_more : ℕ → ℕ → Table → Table
+sold_more plant volume t = with_sold (slice_set t.sold (plant - 1) (slice_index t.sold (plant - 1) + volume)) t
 
 -- the units of a group changed, and the other rows as they were
 abbrev pub in_group : ℕ → (UnitTable → UnitTable) → Table → Table
@@ -104,7 +124,7 @@ applied (TakeBack group unit) t = in_group group (changed (moved false) unit) t
 applied (AddBuyer loss) t = with_buyers (t.buyers.count + 1) (slice_set t.buyers.rows t.buyers.count (new_buyer loss)) t
 applied (Commit plant buyer volume) t =
     with_commitments (t.commitments.count + 1)
-    (slice_set t.commitments.rows t.commitments.count (record { plant = plant; buyer = buyer; volume = volume })) t
+    (slice_set t.commitments.rows t.commitments.count (record { plant = plant; buyer = buyer; volume = volume })) (sold_more plant volume t)
 
 abbrev pub after_entry : Entry → Table → Table
 after_entry entry t = unless (rows (view_of t) entry) (λ _. t) (applied entry t)

@@ -1,5 +1,5 @@
 -- Entries: which row of the table of refusals turns one down, by what was entered before.
-use Rattle.std.specs.Prelude.{ℕ, ◌+◌, ◌-◌, min, Bool, true, cond, ◌||◌, List, [], ◌∷◌, take, Some, None, Option, ◌==◌, nat_le, nat_lt}
+use Rattle.std.specs.Prelude.{ℕ, ◌+◌, ◌-◌, min, Bool, true, cond, ◌||◌, List, [], ◌∷◌, Some, None, Option, ◌==◌, nat_le, nat_lt, slice_index}
 use Rattle.std.specs.Option.{unwrap_or}
 use Rattle.table.specs.declared.entries.Entry.{Entry}
 use Rattle.table.specs.declared.entries.Entry.TheVariants.{AddPlant, AddCompetitive, AddGuaranteed, Correct, PutAside, TakeBack, AddBuyer, Commit}
@@ -97,6 +97,10 @@ abbrev pub sold_by : ℕ → List Commitment → ℕ
 sold_by plant [] = 0
 sold_by plant (c ∷ cs) = volume_of plant c + sold_by plant cs
 
+-- what a table holds of such a sum, by the plant's number
+abbrev pub sold_at : List ℕ → ℕ → ℕ
+sold_at sold plant = cond (plant == 0) 0 (slice_index sold (plant - 1))
+
 -- what the rows see of a table; a count past the table's room is read as its room
 abbrev pub view_of : Table → View
 view_of t = record {
@@ -105,5 +109,5 @@ view_of t = record {
   guaranteed = min t.guaranteed.count 128;
   buyers = min t.buyers.count 64;
   commitments = min t.commitments.count 768;
-  sold = λ plant. sold_by plant (take (min t.commitments.count 768) t.commitments.rows);
+  sold = sold_at t.sold;
 }

@@ -2,7 +2,7 @@
 use Rattle.std.specs.Prelude.{◌≡◌, ℕ, ◌+◌, ◌<◌, ◌≤◌, true, false, cond, ◌&&◌, List, [], ◌∷◌, ◌++◌, length, take, replicate, Some, None, Ok, Err, Result, ◌==◌, slice_index_or}
 use Rattle.table.specs.Closing.{unit_at, terms_of}
 use Rattle.table.specs.Effects.{unless}
-use Rattle.table.specs.Entries.{View, view_of, rows, sold_by}
+use Rattle.table.specs.Entries.{View, view_of, rows, sold_by, sold_at}
 use Rattle.table.specs.Rows.{UnitTable, new_unit, new_plant, new_buyer, corrected, moved, no_hour_figures}
 use Rattle.table.specs.declared.entries.Entry.{Entry}
 use Rattle.table.specs.declared.entries.Entry.TheVariants.{AddPlant, AddCompetitive, AddGuaranteed, Correct, PutAside, TakeBack, AddBuyer, Commit}
@@ -179,6 +179,11 @@ pub record CommitmentsStand (h : List Entry) (count : ℕ) (commitments : List C
   pub counted : count ≡ length (commitments_of h)
   pub rows : take count commitments ≡ commitments_of h
 
+-- what the plants have sold, by their places, is what they sold in a history
+pub record SoldStands (h : List Entry) (sold : List ℕ) : Type 0 where
+  pub long : length sold ≡ 32
+  pub sums : (p : ℕ) → sold_at sold p ≡ sold_in p h
+
 -- a table stands for a history, whatever readings and figures it has
 pub record Stands (h : List Entry) (t : Table) : Type 0 where
   pub plants : PlantsStand h t.plants.count t.plants.rows
@@ -186,6 +191,7 @@ pub record Stands (h : List Entry) (t : Table) : Type 0 where
   pub guaranteed : UnitsStand 2 h t.guaranteed
   pub buyers : BuyersStand h t.buyers.count t.buyers.rows
   pub commitments : CommitmentsStand h t.commitments.count t.commitments.rows
+  pub sold : SoldStands h t.sold
 
 -- A table holds the plants and units of a history, and each plant's commitments come to the same sum. One that stands for
 -- a history does.
@@ -206,5 +212,6 @@ empty_table = record {
   guaranteed = empty_units;
   buyers = record { count = 0; rows = replicate 64 (new_buyer 0) };
   commitments = record { count = 0; rows = replicate 768 (record { plant = 0; buyer = 0; volume = 0 }) };
+  sold = replicate 32 0;
   figures = no_hour_figures;
 }

@@ -1,6 +1,6 @@
 // Closing: the split of each plant's commitments over its units.
-ghost use Rattle.std.specs.Prelude.{◌≡◌, ℕ, ◌*◌, ◌<◌, ◌≤◌, min, List, length, None, sum_by, slice_index, slice_index_or};
-ghost use Rattle.table.specs.Closing.{limit_at, counts, limit_in, declared_in, allocated_to, GroupClosed, declared_by, PlantClosed, Closed};
+ghost use Rattle.std.specs.Prelude.{◌≡◌, ℕ, ◌+◌, ◌*◌, ◌<◌, ◌≤◌, min, List, length, None, sum_by, slice_index, slice_index_or};
+ghost use Rattle.table.specs.Closing.{limit_at, counts, limit_in, declared_in, allocated_to, GroupClosed, committed_by, declared_by, PlantClosed, Closed};
 ghost use Rattle.table.specs.ClosingLaw.{committed_in, ClosingLawOf, ClosingLaw};
 ghost use Rattle.table.specs.History.{Proper, Stands, StandsInSum};
 ghost use Rattle.table.specs.Rows.{new_unit};
@@ -110,6 +110,15 @@ impl UnitTable {
 
 // Offers of both groups side by side, as the public `close` takes them.
 impl Table {
+    // The commitments of the plant at a place.
+    #[tactic(auto, using(crate::proofs::Sold::sold_of))]
+    fn committed(&self, place: usize) -> u32
+        requires { place < 32 }
+        ensures { result ≡ committed_by (place + 1) self.now }
+    {
+        self.sold[place].min(MAX_VOLUME)
+    }
+
     // Closes both groups of the plant at a place, and writes its figures.
     fn close_plant<O: Offer, G: Offer>(&mut self, place: usize, offers: &[O], guaranteed: &[G])
         requires { place < 32 }
@@ -118,7 +127,7 @@ impl Table {
         let number = place as u32 + 1;
         let loss = self.plants.rows[place].loss;
         let plant = NumberedPlant { number, loss };
-        let committed = self.sold(number).min(MAX_VOLUME as u64) as u32;
+        let committed = self.committed(place);
         let competitive_gross = self.competitive.declared(number, offers.len());
         let guaranteed_gross = self.guaranteed.declared(number, guaranteed.len());
         let share = group_one_share(committed, competitive_gross, guaranteed_gross);

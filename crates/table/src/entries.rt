@@ -1,11 +1,11 @@
 // Entries of an open hour: what turns one down, and what it changes.
-ghost use Rattle.std.specs.Prelude.{◌≡◌, ◌+◌, ◌*◌, ◌<◌, ◌≤◌, min, true, false, List, length, Ok, Err, OnOk};
+ghost use Rattle.std.specs.Prelude.{◌≡◌, ◌+◌, ◌-◌, ◌*◌, ◌<◌, ◌≤◌, min, true, false, List, length, Ok, Err, OnOk, IfOk, slice_index};
 ghost use Rattle.table.specs.Effects.{answer_of, after_entry, after_entries, priced_answer, after_priced, unless, passes, in_group};
 ghost use Rattle.table.specs.Groups.{units_of, with_units};
 ghost use Rattle.table.specs.History.{Stands, accepted};
 ghost use Rattle.table.specs.Rows.{added, changed, moved};
 ghost use Rattle.table.specs.Turns.{EntriesAnswered};
-ghost use Rattle.table.specs.Entries.{view_of, sold_by, added_rows, new_unit_rows, commit_rows, unit_rows};
+ghost use Rattle.table.specs.Entries.{view_of, added_rows, new_unit_rows, commit_rows, unit_rows};
 
 use crate::calls::Call;
 use crate::groups::Group;
@@ -57,19 +57,6 @@ pub enum Entry {
     },
 }
 
-// The volumes sold by a plant. Settling sums what a buyer bought in the same way; one for both would take the field from
-// its caller.
-fn sold_by(commitments: &[Commitment], plant: u32) -> u64
-    requires { length commitments.now ≤ 768 }
-    ensures { result ≡ sold_by plant commitments.now }
-{
-    commitments
-        .iter()
-        .filter(|commitment| commitment.plant == plant)
-        .map(|commitment| commitment.volume as u64)
-        .sum()
-}
-
 // What turns down one more row with a loss.
 fn check_added<T: Copy, const N: usize>(rows: &Rows<T, N>, loss: u32) -> Result<(), BookRefusal>
     ensures value { result ≡ passes (added_rows (min rows.now.count N) N loss) }
@@ -83,13 +70,6 @@ fn check_added<T: Copy, const N: usize>(rows: &Rows<T, N>, loss: u32) -> Result<
 }
 
 impl Table {
-    // What a plant has sold so far.
-    pub(crate) fn sold(&self, plant: u32) -> u64
-        ensures { result ≡ (view_of self.now).sold plant }
-    {
-        sold_by(self.commitments.entered(), plant)
-    }
-
     // What turns a new unit of a group down.
     fn check_unit(&self, group: Group, unit: &UnitRecord) -> Result<(), BookRefusal>
         ensures value { result ≡ passes (new_unit_rows (min self.now.plants.count 32) (min (units_of group self.now).count 128) unit.now) }
@@ -109,11 +89,13 @@ impl Table {
         Ok(())
     }
 
-    fn check_commitment(&self, commitment: &Commitment) -> Result<(), BookRefusal>
-        ensures value { result ≡ passes (commit_rows (view_of self.now) commitment.now.plant commitment.now.buyer commitment.now.volume) }
-        ensures fits { OnOk result (self.now.commitments.count < 768) }
+    // What turns a commitment down; else the place of its plant.
+    fn check_commitment(&self, commitment: &Commitment) -> Result<usize, BookRefusal>
+        ensures value { result ≡ unless (commit_rows (view_of self.now) commitment.now.plant commitment.now.buyer commitment.now.volume) Err (Ok (commitment.now.plant - 1)) }
+        ensures fits { IfOk result (λ place. (self.now.commitments.count < 768) × ((place < 32) × (slice_index self.now.sold place + commitment.now.volume ≤ 20000000))) }
     {
-        self.plants
+        let place = self
+            .plants
             .place(commitment.plant)
             .ok_or(BookRefusal::NoPlant)?;
         self.buyers
@@ -124,11 +106,10 @@ impl Table {
         if volume == 0 || volume > MAX_VOLUME {
             return Err(BookRefusal::Energy);
         }
-        let sold = self.sold(commitment.plant);
-        if sold.saturating_add(volume as u64) > MAX_VOLUME as u64 {
+        if self.sold[place].saturating_add(volume) > MAX_VOLUME {
             return Err(BookRefusal::Commitments);
         }
-        Ok(())
+        Ok(place)
     }
 
     // `answer_of` and `after_entry` are the two promises of the public `enter`; each part of it makes them of its entry.
@@ -184,7 +165,8 @@ impl Table {
             buyer,
             volume,
         };
-        self.check_commitment(&commitment)?;
+        let place = self.check_commitment(&commitment)?;
+        self.sold[place] += volume;
         Ok(self.commitments.add(commitment))
     }
 

@@ -290,6 +290,9 @@ pub struct Table {
     pub guaranteed: UnitTable,
     pub buyers: Rows<Buyer, BUYERS>,
     pub commitments: Rows<Commitment, COMMITMENTS>,
+    /// What each plant has sold, by its place: the sum of its commitments. Kept beside them, so that a further one need not
+    /// add them all up again.
+    pub sold: [u32; PLANTS],
     pub figures: HourFigures,
 }
 
@@ -306,6 +309,7 @@ impl Table {
             guaranteed: units,
             buyers: Rows::empty([Buyer::default(); BUYERS]),
             commitments: Rows::empty([Commitment::default(); COMMITMENTS]),
+            sold: [0; PLANTS],
             figures: HourFigures::default(),
         }
     }

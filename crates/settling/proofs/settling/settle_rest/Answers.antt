@@ -44,6 +44,7 @@ returns c =
       guaranteed = t.guaranteed;
       buyers = record { count = b; rows = c.settle_buyers.new.buyers.rows };
       commitments = t.commitments;
+      sold = t.sold;
       figures = hour c.totals-totals.result.billed c.volumes-committed.result c.unassigned.result;
     } in x in
     record {
