@@ -1,7 +1,7 @@
 // The figures of buyers: shares of the billed energy, and net purchases.
-ghost use Rattle.std.specs.Prelude.{◌≡◌, ℕ, ◌+◌, ◌*◌, ◌<◌, ◌≤◌, min, cond, length, ◌==◌, slice_index_or};
+ghost use Rattle.std.specs.Prelude.{◌≡◌, ℕ, ◌+◌, ◌*◌, ◌<◌, ◌≤◌, min, cond, length, ◌==◌, slice_index, slice_index_or};
 ghost use Rattle.table.specs.Rows.{new_buyer};
-ghost use Rattle.settling.specs.Figures.{bought_by, volumes};
+ghost use Rattle.settling.specs.Figures.{bought_of, bought_by, volumes};
 ghost use Rattle.settling.specs.Settled.{settled_buyer};
 ghost use Rattle.settling.specs.Stages.{buyer_weight, weights_of, share_of, buyer_figures_by};
 
@@ -37,17 +37,28 @@ impl Sold<'_> {
             .sum()
     }
 
-    // The volumes that a buyer bought. The table sums what a plant sold in the same way; one for both would take the field
-    // from its caller.
-    fn bought_by(&self, buyer: u32) -> u64
-        ensures value { result ≡ bought_by buyer self.now.commitments.now }
-        ensures bound { result ≤ 768 * 4294967295 }
+    // What each buyer bought, by its place. One walk for all buyers, since there may be many of both.
+    fn bought(&self) -> [u64; BUYERS]
+        ensures value { (k : ℕ) → k < 64 → slice_index result k ≡ bought_by (k + 1) self.now.commitments.now }
+        ensures bound { (k : ℕ) → k < 64 → slice_index result k ≤ 768 * 4294967295 }
     {
-        self.commitments
-            .iter()
-            .filter(|commitment| commitment.buyer == buyer)
-            .map(|commitment| commitment.volume as u64)
-            .sum()
+        let mut bought = [0u64; BUYERS];
+        for commitment in self.commitments {
+            add_bought(&mut bought, commitment);
+        }
+        bought
+    }
+}
+
+// Adds a commitment to what its buyer bought.
+fn add_bought(bought: &mut [u64; BUYERS], commitment: &Commitment)
+    requires { (k : ℕ) → k < 64 → slice_index bought.old k ≤ 768 * 4294967295 }
+    ensures value { (k : ℕ) → k < 64 → slice_index bought.new k ≡ slice_index bought.old k + bought_of (k + 1) commitment.now }
+    ensures bound { (k : ℕ) → k < 64 → slice_index bought.new k ≤ slice_index bought.old k + 4294967295 }
+{
+    let buyer = commitment.buyer as usize;
+    if buyer > 0 && buyer <= BUYERS {
+        bought[buyer - 1] += commitment.volume as u64;
     }
 }
 
@@ -106,11 +117,12 @@ pub(crate) fn settle_buyers(buyers: &mut Rows<Buyer, BUYERS>, sold: &Sold, share
     ensures entered { (k : ℕ) → k < min buyers.old.count 64 → slice_index_or buyers.new.rows k (new_buyer 0) ≡ settled_buyer (buyer_figures_by shares.now.billed (weights_of k buyers.old.rows) (weights_of (k + 1) buyers.old.rows) shares.now.weights (bought_by (k + 1) sold.now.commitments.now)) (slice_index_or buyers.old.rows k (new_buyer 0)) }
     ensures others { (k : ℕ) → min buyers.old.count 64 ≤ k → slice_index_or buyers.new.rows k (new_buyer 0) ≡ slice_index_or buyers.old.rows k (new_buyer 0) }
 {
+    let bought = sold.bought();
     let entered = buyers.entered().len();
     let mut before = 0;
     for (place, buyer) in buyers.rows[..entered].iter_mut().enumerate() {
         let upto = before + weight_of(buyer);
-        buyer.figures = shares.figures(before, upto, sold.bought_by(place as u32 + 1));
+        buyer.figures = shares.figures(before, upto, bought[place]);
         before = upto;
     }
 }

@@ -19,7 +19,7 @@ figures-buyer-requires c =
     let weight = λ (k : ℕ). buyer_weight (get_or c.args.buyers.now.rows k (new_buyer 0)) in
     let same : c.weight_of.result ≡ weight i = c.weight_of.ensures.value ∙ ap buyer_weight (c.loop-place.invariant.1 i (omega arith) here) in
     let prefix = sum_prefix weight (i + 1) (min c.args.buyers.now.count 64) (omega arith) in
-    (omega arith, (omega (arith, same, sum_more i weight, prefix, c.loop-place.invariant.2, c.requires), c.bought_by.ensures.bound))
+    (omega arith, (omega (arith, same, sum_more i weight, prefix, c.loop-place.invariant.2, c.requires), c.bought-bought.ensures.bound i (omega arith)))
 
 pub loop-place-preserved : goal.loop-place-preserved
 loop-place-preserved c =
@@ -36,9 +36,9 @@ loop-place-preserved c =
     let figures = λ (b u s : ℕ). buyer_figures_by c.args.shares.now.billed b u c.args.shares.now.weights s in
     let found : c.figures-buyer.result ≡ figures (weights_of i start) (weights_of (i + 1) start) (bought_by (i + 1) c.args.sold.now.commitments.now) =
     c.figures-buyer.ensures
-    ∙ ap (λ b. figures b (c.loop-place.before + c.weight_of.result) c.bought_by.result) c.loop-place.invariant.2
-    ∙ ap (λ u. figures (weights_of i start) u c.bought_by.result) upto
-    ∙ ap (figures (weights_of i start) (weights_of (i + 1) start)) c.bought_by.ensures.value in
+    ∙ ap (λ b. figures b (c.loop-place.before + c.weight_of.result) (get_or c.bought-bought.result i 0)) c.loop-place.invariant.2
+    ∙ ap (λ u. figures (weights_of i start) u (get_or c.bought-bought.result i 0)) upto
+    ∙ ap (figures (weights_of i start) (weights_of (i + 1) start)) (c.bought-bought.ensures.value i (omega arith)) in
     let wrote = ap (λ f. settled_buyer f (get_or buyers i none)) found in (
       below_more _ _
           (λ k below. let ne : k ≢ i = omega arith in get_or-set_other buyers i k _ none ne ∙ c.loop-place.invariant.0 k below)
