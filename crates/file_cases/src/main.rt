@@ -34,16 +34,25 @@ fn refuses_buffer(heap: Global, file: &[u8], bytes: usize) -> Result<bool, Alloc
     Ok(fault == short && out.iter().all(|byte| *byte == UNUSED))
 }
 
-// Whether the text stored for a case is what is printed for its file. A listing is tried with a buffer too short by one.
+// Whether a buffer with one byte more than a file's listing gets the listing, and keeps that byte.
+fn fills_buffer(heap: Global, file: &[u8], want: &[u8]) -> Result<bool, AllocError> {
+    let mut book = Book::new();
+    let mut out = vec![in heap; UNUSED; want.len() + 1]?;
+    let listed = list_hour(heap, &mut book, file, out.as_mut_slice());
+    Ok(listed.end == Ok(want.len()) && out.as_slice().starts_with(want) && out.last() == Some(&UNUSED))
+}
+
+// Whether the text stored for a case is what is printed for its file. A listing is also tried with a buffer that has room
+// and with one that is too short by one.
 fn is_same(heap: Global, file: &[u8], want: &[u8]) -> Result<bool, AllocError> {
     let text = printed(heap, file)?;
-    if text.as_slice() != want {
+    if text.as_bytes() != want {
         return Ok(false);
     }
     match want {
         [] => Ok(false),
         [b'R', ..] => Ok(true),
-        _ => refuses_buffer(heap, file, want.len() - 1),
+        _ => Ok(fills_buffer(heap, file, want)? && refuses_buffer(heap, file, want.len() - 1)?),
     }
 }
 

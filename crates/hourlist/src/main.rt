@@ -12,5 +12,5 @@ fn main(rt: HostRuntime) -> io::Result<()> {
     let mut file = Vec::new(rt.alloc());
     rt.stdin().take(MOST_READ).read_to_end(&mut file)?;
     let text = printed(rt.alloc(), file.as_slice())?;
-    rt.stdout().write_all(text.as_slice())
+    rt.stdout().write_all(text.as_bytes())
 }

@@ -16,11 +16,11 @@ use Rattle.listing.specs.declared.errors.ListError.{ListError}
 use Rattle.listing.specs.declared.errors.ListError.TheVariants.{Fault}
 
 -- the fault of an end
-no_fault : (o : Option FileFault) (x : Unit) → end_of o ≡ Ok x → o ≡ None
+pub no_fault : (o : Option FileFault) (x : Unit) → end_of o ≡ Ok x → o ≡ None
 no_fault None x is = refl
 no_fault (Some fault) x is = absurd (true≢false (sym (ap is_ok is)))
 
-a_fault : (o : Option FileFault) (fault : FileFault) → end_of o ≡ Err fault → o ≡ Some fault
+pub a_fault : (o : Option FileFault) (fault : FileFault) → end_of o ≡ Err fault → o ≡ Some fault
 a_fault None fault is = absurd (true≢false (ap is_ok is))
 a_fault (Some f) fault is = ap fault_of is
   where

@@ -13,7 +13,7 @@ use reader::{FileHour, Reached, read_hour};
 use std::alloc::Global;
 
 // The greatest length of a file.
-const MOST_BYTES: usize = 65_536;
+pub(crate) const MOST_BYTES: usize = 65_536;
 
 // The end of a listing whose file has so many bytes.
 fn list_end(end: Result<usize, ListingError>, place: u32) -> Result<usize, ListError>

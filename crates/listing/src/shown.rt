@@ -1,16 +1,14 @@
 // What hourlist prints.
 ghost use Rattle.std.specs.Prelude.{◌≡◌, IfOk};
 ghost use Rattle.std.specs.String.{string_bytes};
-ghost use Rattle.listing.specs.Printed.{fault_line, ErrorShown, IsPrinted};
+ghost use Rattle.listing.specs.Printed.{fault_line, HourShown, IsPrinted};
 
-use crate::errors::ListError;
-use crate::files::list_hour;
+use crate::files::MOST_BYTES;
+use crate::text::listing;
 use book::Book;
-use hourfile::FileFault;
+use hourfile::{Cause, FileFault};
+use reader::{FileHour, Reached, read_hour};
 use std::alloc::{AllocError, Global};
-
-// Room for the longest listing, and more.
-const ROOM: usize = 65_536;
 
 /// The line of a fault.
 pub fn fault_line(heap: Global, fault: FileFault) -> Result<String, AllocError>
@@ -19,28 +17,30 @@ pub fn fault_line(heap: Global, fault: FileFault) -> Result<String, AllocError>
     format!(in heap; "{fault}\n")
 }
 
-// What is printed where there is no listing.
-fn error_shown(heap: Global, error: ListError) -> Result<Vec<u8>, AllocError>
-    ensures { IfOk result (λ text. ErrorShown error text.items) }
+// What is printed for the hour that a file without a fault led to, if it is settled.
+fn hour_shown(heap: Global, reached: &Reached, place: u32) -> Result<String, AllocError>
+    ensures { IfOk result (λ text. HourShown reached.now place (string_bytes text)) }
 {
-    match error {
-        ListError::Fault(fault) => Ok(fault_line(heap, fault)?.into_bytes()),
-        ListError::Memory => Err(AllocError),
+    match reached {
+        Reached::Settled(hour) => listing(heap, hour),
+        Reached::Unopened(_) | Reached::Open(_) | Reached::Closed(_) => fault_line(
+            heap,
+            FileFault {
+                cause: Cause::Ended,
+                place,
+            },
+        ),
     }
 }
 
 /// What is printed for a file: the listing of its hour, or the line of its fault.
-pub fn printed(heap: Global, file: &[u8]) -> Result<Vec<u8>, AllocError>
-    ensures { IfOk result (λ text. IsPrinted file.now text.items) }
+pub fn printed(heap: Global, file: &[u8]) -> Result<String, AllocError>
+    ensures { IfOk result (λ text. IsPrinted file.now (string_bytes text)) }
 {
     let mut book = Book::new();
-    let mut out = vec![in heap; 0; ROOM]?;
-    let listed = list_hour(heap, &mut book, file, out.as_mut_slice());
-    match listed.end {
-        Ok(length) => {
-            out.truncate(length);
-            Ok(out)
-        }
-        Err(error) => error_shown(heap, error),
+    let FileHour { reached, end } = read_hour(&mut book, file);
+    match end {
+        Ok(()) => hour_shown(heap, &reached, file.len().min(MOST_BYTES) as u32),
+        Err(fault) => fault_line(heap, fault),
     }
 }
