@@ -1,5 +1,5 @@
 -- What lists of calls lead to, from an empty hour on.
-use Rattle.std.proofs.Common.{◌≡◌, ℕ, List, [], get_or, take, ◌∙◌, subst}
+use Rattle.std.proofs.Common.{◌≡◌, ℕ, List, [], get_or, take, ap, ◌∙◌, subst}
 use Rattle.settling.specs.Figures.{Pay}
 use Rattle.settling.specs.Settled.{Settled}
 use Rattle.settling.specs.declared.header.Header.{Header}
@@ -22,7 +22,16 @@ use Rattle.table.specs.declared.readings.Reading.TheVariants.{Use}
 use Rattle.table.specs.declared.records.Table.{Table}
 use Rattle.book.proofs.Only.{only_figures}
 use Rattle.book.proofs.Settles.{settled_law}
-use Rattle.book.specs.Law.{entered, metered, EntriesJudged, ReadingsJudged, SettledLaw, OnlyFigures}
+use Rattle.book.specs.Law.{entered, metered, EntriesJudged, ReadingsJudged, RowsOf, SettledLaw, OnlyFigures}
+
+-- settling adds no row and drops none
+pub settled_rows : (header : Header) (pay : Pay) (h : List Entry) (t after : Table) → Stands h t → Settled header pay t after → RowsOf h after
+settled_rows header pay h t after s settled = record {
+  plants = ap (λ (x : Table). x.plants.count) settled.rest ∙ s.plants.counted;
+  competitive = settled.competitive.same.count ∙ s.competitive.count;
+  guaranteed = settled.guaranteed.same.count ∙ s.guaranteed.count;
+  buyers = ap (λ (x : Table). x.buyers.count) settled.rest ∙ s.buyers.counted;
+}
 
 module _ (entries : List Entry) where
   pub entered_proper : Proper (entered entries)

@@ -34,6 +34,13 @@ pub record ReadingsJudged (entries : List Entry) (readings : List Reading) (befo
   pub answered : (i : ℕ) → i < length readings → i < length before → answer_at after i ≡ reading_answer_in (view_in (entered entries)) (slice_index_or readings i (Use 0 0))
   pub others : (i : ℕ) → length readings ≤ i → answer_at after i ≡ answer_at before i
 
+-- the table has a row for each plant, unit and buyer that was entered, and no other
+pub record RowsOf (h : List Entry) (t : Table) : Type 0 where
+  pub plants : t.plants.count ≡ plants_in h
+  pub competitive : t.competitive.count ≡ units_in 1 h
+  pub guaranteed : t.guaranteed.count ≡ units_in 2 h
+  pub buyers : t.buyers.count ≡ buyers_in h
+
 -- the ledger of the accepted calls, with the amounts and the run support that stand in the table
 abbrev pub ledger : List Entry → List Reading → Table → Ledger
 ledger h rs t = ledger_in (found_in t) h rs

@@ -4,7 +4,7 @@ ghost use Rattle.settling.specs.Figures.{pay_by};
 ghost use Rattle.table.specs.ClosingLaw.{ClosingLaw};
 ghost use Rattle.table.specs.History.{Stands};
 ghost use Rattle.table.specs.Metered.{Metered};
-ghost use Rattle.book.specs.Law.{entered, metered, EntriesJudged, ReadingsJudged, SettledLaw, OnlyFigures};
+ghost use Rattle.book.specs.Law.{entered, metered, EntriesJudged, ReadingsJudged, RowsOf, SettledLaw, OnlyFigures};
 
 use crate::book::Book;
 use crate::closed::ClosedHour;
@@ -79,6 +79,7 @@ pub fn run_settled<'b, O: Offer, G: Offer, P: Offer, C: Curve, H: Offer>(
     ensures judged { EntriesJudged calls.now.entries.now entry_answers.old entry_answers.new }
     ensures read { ReadingsJudged calls.now.entries.now calls.now.readings.now reading_answers.old reading_answers.new }
     ensures law { SettledLaw O.Curve.prices calls.now.offers.now G.Curve.prices calls.now.guaranteed.now header (pay_by P.Curve.prices C.Curve.prices rows.now H.Curve.prices offers.now header) (entered calls.now.entries.now) (metered calls.now.entries.now calls.now.readings.now) result.table.now }
+    ensures rows { RowsOf (entered calls.now.entries.now) result.table.now }
     ensures only { OnlyFigures O.Curve.prices calls.now.offers.now G.Curve.prices calls.now.guaranteed.now header (pay_by P.Curve.prices C.Curve.prices rows.now H.Curve.prices offers.now header) (entered calls.now.entries.now) (metered calls.now.entries.now calls.now.readings.now) result.table.now }
 {
     let hour = run_closed(book, header, calls, entry_answers, reading_answers);

@@ -3,9 +3,9 @@ use Rattle.std.proofs.Common.{◌≡◌, ℕ, zero, suc, ◌+◌, ◌-◌, ◌<�
 use Rattle.std.specs.List.{flat_map, range_with_len}
 use Rattle.std.specs.Option.{option_map}
 use Rattle.std.specs.Result.{result_ok}
-use Rattle.book.specs.Law.{SameFigures}
+use Rattle.book.proofs.Runs.{settled_rows}
+use Rattle.book.specs.Law.{SameFigures, RowsOf}
 use Rattle.book.specs.Questions.{lacks_row}
-use Rattle.table.specs.History.{plants_in, units_in, buyers_in}
 use Rattle.table.specs.Texts.{hour_text}
 use Rattle.table.specs.declared.records.Table.{Table}
 use Rattle.table.specs.declared.refusals.BookRefusal.{BookRefusal}
@@ -35,18 +35,8 @@ row_by make number room e count figures = option_map make (result_ok (cond (lack
 row_same : {F : Type 0} (make : F → Row) (number room : ℕ) (e : BookRefusal) (n m : ℕ) (x y : F) → n ≡ m → x ≡ y → row_by make number room e n x ≡ row_by make number room e m y
 row_same make number room e n m x y counts figures = ap (λ k. row_by make number room e k x) counts ∙ ap (row_by make number room e m) figures
 
-module _ (m : Made) (t : Table) (s : SettledHolds m t) where
-  units1 : t.competitive.count ≡ units_in 1 m.entries
-  units1 = s.settling.competitive.same.count ∙ s.before.stands.competitive.count
-
-  units2 : t.guaranteed.count ≡ units_in 2 m.entries
-  units2 = s.settling.guaranteed.same.count ∙ s.before.stands.guaranteed.count
-
-  plants : t.plants.count ≡ plants_in m.entries
-  plants = ap (λ (x : Table). x.plants.count) s.settling.rest ∙ s.before.stands.plants.counted
-
-  buyers : t.buyers.count ≡ buyers_in m.entries
-  buyers = ap (λ (x : Table). x.buyers.count) s.settling.rest ∙ s.before.stands.buyers.counted
+rows_of : (m : Made) (t : Table) → SettledHolds m t → RowsOf m.entries t
+rows_of m t s = settled_rows _ _ m.entries s.closed t s.before.stands s.settling
 
 module _ (m : Made) (t u : Table) (a : SettledHolds m t) (b : SettledHolds m u) where
   same : SameFigures m.entries t u
@@ -55,28 +45,28 @@ module _ (m : Made) (t u : Table) (a : SettledHolds m t) (b : SettledHolds m u) 
   competitive_same : (k : ℕ) → 1 ≤ k → k < 1 + count_of Competitive t → row_in Competitive k t ≡ row_in Competitive k u
   unfolding row_by
   competitive_same k from to =
-      row_same (C k) k 128 NoUnit _ _ _ _ (units1 m t a ∙ sym (units1 m u b)) (same.competitive (k - 1) (omega (arith, from, to, units1 m t a)))
+      row_same (C k) k 128 NoUnit _ _ _ _ ((rows_of m t a).competitive ∙ sym ((rows_of m u b).competitive)) (same.competitive (k - 1) (omega (arith, from, to, (rows_of m t a).competitive)))
 
   guaranteed_same : (k : ℕ) → 1 ≤ k → k < 1 + count_of Guaranteed t → row_in Guaranteed k t ≡ row_in Guaranteed k u
   unfolding row_by
   guaranteed_same k from to =
-      row_same (G k) k 128 NoUnit _ _ _ _ (units2 m t a ∙ sym (units2 m u b)) (same.guaranteed (k - 1) (omega (arith, from, to, units2 m t a)))
+      row_same (G k) k 128 NoUnit _ _ _ _ ((rows_of m t a).guaranteed ∙ sym ((rows_of m u b).guaranteed)) (same.guaranteed (k - 1) (omega (arith, from, to, (rows_of m t a).guaranteed)))
 
   plants_same : (k : ℕ) → 1 ≤ k → k < 1 + count_of Plants t → row_in Plants k t ≡ row_in Plants k u
   unfolding row_by
   plants_same k from to =
-      row_same (P k) k 32 NoPlant _ _ _ _ (plants m t a ∙ sym (plants m u b)) (same.plants (k - 1) (omega (arith, from, to, plants m t a)))
+      row_same (P k) k 32 NoPlant _ _ _ _ ((rows_of m t a).plants ∙ sym ((rows_of m u b).plants)) (same.plants (k - 1) (omega (arith, from, to, (rows_of m t a).plants)))
 
   buyers_same : (k : ℕ) → 1 ≤ k → k < 1 + count_of Buyers t → row_in Buyers k t ≡ row_in Buyers k u
   unfolding row_by
   buyers_same k from to =
-      row_same (B k) k 64 NoBuyer _ _ _ _ (buyers m t a ∙ sym (buyers m u b)) (same.buyers (k - 1) (omega (arith, from, to, buyers m t a)))
+      row_same (B k) k 64 NoBuyer _ _ _ _ ((rows_of m t a).buyers ∙ sym ((rows_of m u b).buyers)) (same.buyers (k - 1) (omega (arith, from, to, (rows_of m t a).buyers)))
 
   counts_same : (kind : Kind) → count_of kind t ≡ count_of kind u
-  counts_same Competitive = ap (λ k. min k 128) (units1 m t a ∙ sym (units1 m u b))
-  counts_same Guaranteed = ap (λ k. min k 128) (units2 m t a ∙ sym (units2 m u b))
-  counts_same Plants = ap (λ k. min k 32) (plants m t a ∙ sym (plants m u b))
-  counts_same Buyers = ap (λ k. min k 64) (buyers m t a ∙ sym (buyers m u b))
+  counts_same Competitive = ap (λ k. min k 128) ((rows_of m t a).competitive ∙ sym ((rows_of m u b).competitive))
+  counts_same Guaranteed = ap (λ k. min k 128) ((rows_of m t a).guaranteed ∙ sym ((rows_of m u b).guaranteed))
+  counts_same Plants = ap (λ k. min k 32) ((rows_of m t a).plants ∙ sym ((rows_of m u b).plants))
+  counts_same Buyers = ap (λ k. min k 64) ((rows_of m t a).buyers ∙ sym ((rows_of m u b).buyers))
 
   rows_same : (kind : Kind) (k : ℕ) → 1 ≤ k → k < 1 + count_of kind t → row_in kind k t ≡ row_in kind k u
   rows_same Competitive = competitive_same

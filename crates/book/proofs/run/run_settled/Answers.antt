@@ -2,7 +2,8 @@ use Rattle.std.proofs.Common.{subst}
 use Rattle.settling.specs.Figures.{pay_by}
 use Rattle.settling.specs.Settled.{Settled}
 use Rattle.settling.specs.declared.header.Header.{Header}
-use Rattle.book.proofs.Runs.{run_settled_law, run_settled_only}
+use Rattle.book.proofs.Runs.{settled_rows, run_settled_law, run_settled_only}
+use Rattle.book.specs.Law.{entered}
 use Rattle.book.proofs.run.run_settled.Goals as goal
 
 pub returns : goal.returns
@@ -23,5 +24,6 @@ returns g c =
       judged = c.run_closed-hour.ensures.judged;
       read = c.run_closed-hour.ensures.read;
       law = law;
+      rows = settled_rows header (pay header) (entered entries) t after c.run_closed-hour.ensures.stands settled;
       only = run_settled_only entries prices1 offers prices2 guaranteed header (pay header) readings after law;
     }
