@@ -8,7 +8,7 @@ use Rattle.allocation.specs.Groups.{Group, price_at, sum_of}
 use Rattle.allocation.specs.Laws.{Split}
 use Rattle.allocation.proofs.Sums.{sum_cong}
 use Rattle.curves.specs.Limits.{read_energy}
-use Rattle.table.specs.Closing.{counts, limit_in, declared_in, allocated_to, unit_at, plant_group, GroupClosed, terms_of, SameUnits, SamePaid, Allotted, declared_by, committed_by, share_one, share_two, closed_plant, plant_at, PlantClosed, PlantResult, ClosedTo}
+use Rattle.table.specs.Closing.{counts, limit_in, declared_in, allocated_to, unit_at, plant_group, GroupClosed, terms_of, SameUnits, SamePaid, OthersKept, Allotted, declared_by, committed_by, share_one, share_two, closed_plant, plant_at, PlantClosed, PlantResult, ClosedTo}
 use Rattle.settlement.specs.Shares.{group_one_share}
 use Rattle.table.specs.Effects.{with_plants, with_competitive, with_guaranteed}
 use Rattle.table.specs.Rows.{UnitTable, new_unit, new_plant}
@@ -84,6 +84,18 @@ same_after prices offers plant loss share t now next left same closed = record {
       (λ lt. ap terms_of (closed.entered i lt) ∙ terms_kept plant (closed.amount i) (unit_at now i) ∙ same.terms i)
       (λ past. ap terms_of (closed.others i past) ∙ same.terms i)
       (cases_lt i (min now.count 128));
+}
+
+others_after : {O : Type 0} (prices : O → ℕ → ℕ) (offers : List O) (n loss share : ℕ) (t now next : UnitTable) (left : ℕ) → SameUnits t now → OthersKept n t now → GroupClosed prices offers (n + 1) loss share now next left → OthersKept (n + 1) t next
+others_after prices offers n loss share t now next left same kept closed = record {
+  amounts = λ i other.
+      let own : (unit_at now i).plant ≡ (unit_at t i).plant = ap (λ (u : UnitRecord). u.plant) (same.terms i) in
+      let before = kept.amounts i (λ place lt. other place (omega arith)) in
+      ⊎_elim
+      (λ lt. ap (λ (u : UnitRecord). u.figures.allocated) (closed.entered i lt ∙ kept_other (n + 1) (closed.amount i) (unit_at now i) (λ mine. other n (omega arith) (sym own ∙ mine))) ∙ before)
+      (λ past. ap (λ (u : UnitRecord). u.figures.allocated) (closed.others i past) ∙ before)
+      (cases_lt i (min now.count 128));
+  later = λ i past. closed.others i (omega (arith, same.count, past)) ∙ kept.later i past;
 }
 
 -- the limits and declared energies of a group are those of its terms
@@ -203,6 +215,8 @@ module _ {O P : Type 0} (prices1 : O → ℕ → ℕ) (offers1 : List O) (prices
         same2 = same_after prices2 offers2 (n + 1) _ _ before.guaranteed now.guaranteed next.guaranteed _ inv.same2 closed.two;
         paid1 = paid_after prices1 offers1 (n + 1) _ _ before.competitive now.competitive next.competitive _ inv.paid1 closed.one;
         paid2 = paid_after prices2 offers2 (n + 1) _ _ before.guaranteed now.guaranteed next.guaranteed _ inv.paid2 closed.two;
+        others1 = others_after prices1 offers1 n _ _ before.competitive now.competitive next.competitive _ inv.same1 inv.others1 closed.one;
+        others2 = others_after prices2 offers2 n _ _ before.guaranteed now.guaranteed next.guaranteed _ inv.same2 inv.others2 closed.two;
         plants = λ place lt. ⊎_elim
             (λ (same : place ≡ n). subst (λ p. PlantResult prices1 offers1 prices2 offers2 p before next) (sym same) (here room))
             (λ (other : place ≡ n → ⊥). earlier place (omega arith))

@@ -142,12 +142,19 @@ pub record SamePaid (before after : UnitTable) : Type 0 where
   pub billed : (i : ℕ) → (unit_at after i).figures.billed ≡ (unit_at before i).figures.billed
   pub payment : (i : ℕ) → (unit_at after i).figures.payment ≡ (unit_at before i).figures.payment
 
+-- a unit of none of the plants at the first n places keeps its amount, and one that is not entered stays as it is
+pub record OthersKept (n : ℕ) (before after : UnitTable) : Type 0 where
+  pub amounts : (i : ℕ) → ((place : ℕ) → place < n → (unit_at before i).plant ≡ place + 1 → ⊥) → (unit_at after i).figures.allocated ≡ (unit_at before i).figures.allocated
+  pub later : (i : ℕ) → min before.count 128 ≤ i → unit_at after i ≡ unit_at before i
+
 -- the plants at the first n places are closed, and nothing else changes
 pub record ClosedTo {O P : Type 0} (prices1 : O → ℕ → ℕ) (offers1 : List O) (prices2 : P → ℕ → ℕ) (offers2 : List P) (n : ℕ) (before after : Table) : Type 0 where
   pub same1 : SameUnits before.competitive after.competitive
   pub same2 : SameUnits before.guaranteed after.guaranteed
   pub paid1 : SamePaid before.competitive after.competitive
   pub paid2 : SamePaid before.guaranteed after.guaranteed
+  pub others1 : OthersKept n before.competitive after.competitive
+  pub others2 : OthersKept n before.guaranteed after.guaranteed
   pub plants : (place : ℕ) → place < n → PlantResult prices1 offers1 prices2 offers2 place before after
   pub later : (place : ℕ) → n ≤ place → plant_at after place ≡ plant_at before place
   pub long : length after.plants.rows ≡ length before.plants.rows
