@@ -218,6 +218,22 @@ BASE = [
     record(GUARANTEED_READING, 1, 28, 20, 5, 4, 3, 2, 1, 1, 0), record(BUYER_READING, 1, 77), record(SETTLE),
 ]
 
+# The second sample: two plants, two buyers and five units, one of them put aside. Its listing is worked out by hand.
+TWO_PLANTS = [
+    record(HEADER, 500, 9_000, 300, 30, 200), record(PLANT, 200), record(PLANT, 0), record(BUYER, 0),
+    record(BUYER, 1_000), record(COMPETITIVE, 1, 50, 0, 2, 40, 300, 60, 400, 100, 420),
+    record(COMPETITIVE, 1, 30, 500, 2, 20, 300, 20, 500, 40, 250),
+    record(COMPETITIVE, 2, 50, 100, 2, 30, 200, 30, 600, 60, 450), record(COMPETITIVE, 2, 40, 0, 1, 40, 100, 40, 80),
+    record(GUARANTEED, 1, 45, 20, 0, 1), record(COMMIT, 1, 1, 80), record(COMMIT, 1, 2, 20), record(COMMIT, 2, 1, 35),
+    record(CORRECT, 1, 1, 60), record(PUT_ASIDE, 1, 4), record(PUT_ASIDE, 2, 1), record(TAKE_BACK, 2, 1),
+    record(CLOSE), record(COMPETITIVE_READING, 1, 70, 60, 0, 10, 50, 0, 40, 2, 0, 0, 4, 0, 1, 0, 0, 0, 0),
+    record(COMPETITIVE_READING, 2, 30, 20, 0, 0, 25, 1, 22, 0, 0, 0, 3, 0, 2, 780, 1, 4, 0),
+    record(COMPETITIVE_READING, 3, 45, 30, 5, 0, 0, 0, 20, 0, 0, 0, 0, 0, 0, 0, 0, 0, 2),
+    record(COMPETITIVE_READING, 4, 10, 0, 0, 0, 0, 0, 5, *[0] * 10),
+    record(GUARANTEED_READING, 1, 50, 10, 1, 0, 0, 0, 0, 0, 0), record(BUYER_READING, 1, 100),
+    record(BUYER_READING, 2, 90), record(BUYER_READING, 2, 77), record(SETTLE),
+]
+
 # Values on both sides of each limit, by kind and place in the base hour, which has one of everything.
 SIDES = {
     HEADER: [(MOST_PRICE, MOST_PRICE + 1), (50_000, 50_001), (1_000_000, 1_000_001), (MOST_PRICE, MOST_PRICE + 1),
@@ -709,7 +725,7 @@ def stored_files():
     files += short_files(random, lambda random: damaged(random, lawful_hour(random)), DAMAGED)
     files += changed_bytes(random)
     files += [full_commitments(random) for _ in range(2)]
-    files += [write_file(large_energies(random)), write_file(largest_hour(random))]
+    files += [write_file(large_energies(random)), write_file(largest_hour(random)), write_file(TWO_PLANTS)]
     return list(dict.fromkeys(files))
 
 

@@ -1,8 +1,8 @@
 #!/usr/bin/env python3
 """One hour by a second calculation, kWh by kWh.
 
-Follows docs/hour.md, docs/refusals.md, docs/settlement.md, docs/allocation.md and docs/price-curves.md, and shares no
-code with the engine.
+Follows docs/hour.md, docs/refusals.md, docs/settlement.md, docs/allocation.md, docs/price-curves.md and
+docs/listing.md, and shares no code with the engine.
 
 Every figure is derived from the list of accepted calls; nothing is kept between calls but that list.
 

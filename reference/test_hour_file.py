@@ -81,6 +81,23 @@ class WorkedHour(HourFiles):
                          "U G 1 0 101 1010\nP 1 0 0 0 0 10 0\nH 101 0 101\n")
 
 
+class Samples(HourFiles):
+    def sample(self, name):
+        with open(os.path.join(os.path.dirname(os.path.abspath(__file__)), "..", "samples", name), "rb") as file:
+            return file.read()
+
+    def test_worked_hour(self):
+        self.assertEqual(self.sample("worked.hour"), data_of(*WORKED))
+
+    def test_two_plants(self):
+        data = self.sample("two-plants.hour")
+        self.assertEqual(data, write_file(file_cases.TWO_PLANTS))
+        # The figures as docs/worked-hours.md has them.
+        self.assertEqual(list_file(data), "U C 1 46 68 8800\nU C 2 20 29 2550\nU C 3 35 45 5000\nU C 4 0 10 960\n"
+                         "U G 1 19 49 11270\nP 1 100 85 15 24 370 13012\nP 2 35 35 0 10 357 3570\n"
+                         "B 1 109 -6\nB 2 92 72\nH 201 135 0\n")
+
+
 class FaultsOfForm(HourFiles):
     def test_empty_file(self):
         self.says(b"", "R F 12 0")
