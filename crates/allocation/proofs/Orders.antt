@@ -3,6 +3,7 @@
 use Rattle.std.proofs.Common.{◌≡◌, ℕ, zero, suc, ◌+◌, ◌-◌, ◌*◌, ◌<◌, ◌≤◌, max, ◌⊎◌, sym, refl, ap, ◌∙◌, inl, inr, ⊎_elim, add-zero, add-suc, mul-zero, mul-suc, mul-add, arith}
 use Rattle.std.proofs.lemmas.Bool.{cases_lt, cases_eq, cond-true, cond-false, lt-ltb, le-ltb}
 use Rattle.curves.specs.Prices.{cost_of}
+use Rattle.curves.proofs.Costs.{cost_flat}
 use Rattle.allocation.specs.Groups.{Group, sum_of, total}
 use Rattle.allocation.specs.Merit.{Before, MeritOrder}
 use Rattle.allocation.specs.Laws.{OnlyThese, NothingLeavesLess, NothingUndercuts, IdleUnitsDropOut, Split, uncovered, skip, without}
@@ -89,11 +90,6 @@ cost_between_lem : (f h : ℕ → ℕ) (a b : ℕ) → a ≤ b → ((m : ℕ) �
 cost_between_lem f h a b le each =
     let whole : a + (b - a) ≡ b = omega arith in
     rw whole at (cost_under f h a (b - a) (λ m above below. each m above (omega arith)))
-
-cost_flat : (p n : ℕ) → cost_of (λ _. p) n ≡ p * n
-unfolding cost_of
-cost_flat p zero = sym (mul-zero p)
-cost_flat p (suc n) = omega (arith, cost_flat p n, mul-suc p n)
 
 -- one unit that changes its amount from a to b, with each kWh that it gives up or takes on traded at p, saves nothing
 unit_trade : (price : ℕ → ℕ) (p a b : ℕ) → ((k : ℕ) → 1 ≤ k → k ≤ a → price k ≤ p) → ((m : ℕ) → a < m → m ≤ b → p ≤ price m) → cost_of price a + p * b ≤ cost_of price b + p * a

@@ -67,12 +67,3 @@ at_most_same f h e d p r same whole counted = record {
   cheap = λ k low high. omega (arith, same k, counted.cheap k low high);
   dear = λ k above within. omega (arith, same k, counted.dear k above (omega arith));
 }
-
--- a cost within the limits
-pub cost_bound : (price : ℕ → ℕ) → ((k : ℕ) → price k ≤ 10000000) → (n : ℕ) → n ≤ 2000000 → cost_of price n ≤ 20000000000000
-unfolding cost_of
-cost_bound price each n le = omega (arith, by_kwh n)
-  where
-    by_kwh : (n : ℕ) → cost_of price n ≤ 10000000 * n
-    by_kwh zero = omega arith
-    by_kwh (suc n) = omega (arith, by_kwh n, each (suc n))

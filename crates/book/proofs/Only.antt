@@ -32,28 +32,27 @@ module _ (g : Group) (share left left' : ℕ) (x y : ℕ → ℕ) (a : Split g s
 own_amount : (g : ℕ) (h : List Entry) (t : UnitTable) (i plant : ℕ) → i < units_in g h → (unit_in g (i + 1) h).plant ≡ plant → amount_in g plant h t i ≡ (unit_at t i).figures.allocated
 own_amount g h t i plant lt own = cond-true _ _ _ (and_from _ _ (lt-ltb i (units_in g h) lt) (eq-eqb _ _ own))
 
+-- the only amounts of a group are its plants' in both tables
+amount_same : {O : Type 0} (g : ℕ) (prices : O → ℕ → ℕ) (offers : List O) (h : List Entry) (t u : UnitTable) (i plant share left left' : ℕ) → i < units_in g h → (unit_in g (i + 1) h).plant ≡ plant → Split (group_in g prices offers plant h) share (amount_in g plant h t) left → Split (group_in g prices offers plant h) share (amount_in g plant h u) left' → (unit_at t i).figures.allocated ≡ (unit_at u i).figures.allocated
+amount_same g prices offers h t u i plant share left left' lt own a b =
+    sym (own_amount g h t i plant lt own) ∙ same_amounts (group_in g prices offers plant h) share left left' _ _ a b i ∙ own_amount g h u i plant lt own
+
 module _ {O P : Type 0} (prices1 : O → ℕ → ℕ) (offers1 : List O) (prices2 : P → ℕ → ℕ) (offers2 : List P) (h : List Entry) (ok : Proper h) (t u : Table) (lt-law : ClosingLaw prices1 offers1 prices2 offers2 h t) (lu-law : ClosingLaw prices1 offers1 prices2 offers2 h u) where
+  -- the place of a unit's plant
+  plant_of : (g i : ℕ) → i < units_in g h → (place : ℕ) × (place < plants_in h) × ((unit_in g (i + 1) h).plant ≡ place + 1)
+  plant_of g i lt =
+      let placed = units_placed h ok g i lt in
+      ((unit_in g (i + 1) h).plant - 1, omega (arith, placed.0, placed.1), omega (arith, placed.0))
+
   one_same : (i : ℕ) → i < units_in 1 h → (unit_at t.competitive i).figures.allocated ≡ (unit_at u.competitive i).figures.allocated
   one_same i lt =
-      let p = (unit_in 1 (i + 1) h).plant in
-      let placed = units_placed h ok 1 i lt in
-      let back : p ≡ p - 1 + 1 = omega (arith, placed.0) in
-      let a = lt-law (p - 1) (omega (arith, placed.0, placed.1)) in
-      let b = lu-law (p - 1) (omega (arith, placed.0, placed.1)) in
-      sym (own_amount 1 h t.competitive i (p - 1 + 1) lt back)
-      ∙ same_amounts (group_in 1 prices1 offers1 (p - 1 + 1) h) (share_one_in (p - 1 + 1) (length offers1) (length offers2) h) a.left1 b.left1 _ _ a.one b.one i
-      ∙ own_amount 1 h u.competitive i (p - 1 + 1) lt back
+      let (place, there, own) = plant_of 1 i lt in
+      amount_same 1 prices1 offers1 h t.competitive u.competitive i (place + 1) _ _ _ lt own (lt-law place there).one (lu-law place there).one
 
   two_same : (i : ℕ) → i < units_in 2 h → (unit_at t.guaranteed i).figures.allocated ≡ (unit_at u.guaranteed i).figures.allocated
   two_same i lt =
-      let p = (unit_in 2 (i + 1) h).plant in
-      let placed = units_placed h ok 2 i lt in
-      let back : p ≡ p - 1 + 1 = omega (arith, placed.0) in
-      let a = lt-law (p - 1) (omega (arith, placed.0, placed.1)) in
-      let b = lu-law (p - 1) (omega (arith, placed.0, placed.1)) in
-      sym (own_amount 2 h t.guaranteed i (p - 1 + 1) lt back)
-      ∙ same_amounts (group_in 2 prices2 offers2 (p - 1 + 1) h) (share_two_in (p - 1 + 1) (length offers1) (length offers2) h) a.left2 b.left2 _ _ a.two b.two i
-      ∙ own_amount 2 h u.guaranteed i (p - 1 + 1) lt back
+      let (place, there, own) = plant_of 2 i lt in
+      amount_same 2 prices2 offers2 h t.guaranteed u.guaranteed i (place + 1) _ _ _ lt own (lt-law place there).two (lu-law place there).two
 
   run_same : (i : ℕ) → i < plants_in h → (plant_at t i).figures.run ≡ (plant_at u i).figures.run
   run_same i lt =

@@ -24,6 +24,16 @@ cost_bound price top bounded zero = omega arith
 cost_bound price top bounded (suc n) =
     omega (arith, cost_bound price top bounded n, bounded (suc n), mul-suc top n)
 
+-- and none of so many kWh is over 20,000,000,000,000
+pub cost_le : (price : ℕ → ℕ) → ((k : ℕ) → price k ≤ 10000000) → (n : ℕ) → n ≤ 2000000 → cost_of price n ≤ 20000000000000
+cost_le price each n le = omega (arith, cost_bound price 10000000 each n)
+
+-- kWh of one price
+pub cost_flat : (p n : ℕ) → cost_of (λ _. p) n ≡ p * n
+unfolding cost_of
+cost_flat p zero = sym (mul-zero p)
+cost_flat p (suc n) = omega (arith, cost_flat p n, mul-suc p n)
+
 -- one turn of a walk by stretches: from `done` to the stretch's end, or to `energy` if that comes first
 pub cost_step : (price : ℕ → ℕ) (done k far end energy p total : ℕ) → k ≡ suc done → done < energy → total ≡ cost_of price done → p ≡ price k → Stretch price k far → end ≡ min far energy → total + p * (end - done) ≡ cost_of price end
 cost_step price done k far end energy p total next room so_far priced stretch ends =

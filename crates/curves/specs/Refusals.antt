@@ -60,8 +60,5 @@ stepped_made rises l = judged (λ t. record { table = t }) rises l
 abbrev pub stepped_offer_made : List Step → Result SteppedOffer CurveRefusal
 stepped_offer_made l = stepped_made true l
 
-abbrev pub stepped_cost_made : List Step → Result SteppedCost CurveRefusal
-stepped_cost_made l = stepped_made false l
-
 abbrev pub tariff_made : ℕ → Result Tariff CurveRefusal
 tariff_made rate = cond (nat_le rate 10000000) (Ok (record { rate = rate })) (Err Price)

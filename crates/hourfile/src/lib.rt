@@ -11,7 +11,7 @@ mod words;
 
 pub use faults::{Cause, FileFault};
 pub use reader::Reader;
-pub use reading::PlacedRecord;
+pub use reading::{MOST_BYTES, PlacedRecord};
 pub use records::Record;
 pub use steps::stepped;
 pub use words::{Word, value_at};

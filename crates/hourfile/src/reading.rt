@@ -11,7 +11,7 @@ use crate::records::Record;
 use crate::words::{Word, count_of, kind_of};
 
 // The greatest length of a file.
-const MOST_BYTES: usize = 65_536;
+pub const MOST_BYTES: usize = 65_536;
 
 /// A record and the place of its head in the file, in bytes.
 #[derive(Clone, Copy)]

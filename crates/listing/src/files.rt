@@ -8,12 +8,9 @@ use crate::errors::{ListError, ListingError};
 use crate::listed::Listed;
 use crate::text::write_listing;
 use book::Book;
-use hourfile::{Cause, FileFault};
+use hourfile::{Cause, FileFault, MOST_BYTES};
 use reader::{FileHour, Reached, read_hour};
 use std::alloc::Global;
-
-// The greatest length of a file.
-pub(crate) const MOST_BYTES: usize = 65_536;
 
 // The end of a listing whose file has so many bytes.
 fn list_end(end: Result<usize, ListingError>, place: u32) -> Result<usize, ListError>

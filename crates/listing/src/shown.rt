@@ -3,10 +3,9 @@ ghost use Rattle.std.specs.Prelude.{◌≡◌, IfOk};
 ghost use Rattle.std.specs.String.{string_bytes};
 ghost use Rattle.listing.specs.Printed.{fault_line, HourShown, IsPrinted};
 
-use crate::files::MOST_BYTES;
 use crate::text::listing;
 use book::Book;
-use hourfile::{Cause, FileFault};
+use hourfile::{Cause, FileFault, MOST_BYTES};
 use reader::{FileHour, Reached, read_hour};
 use std::alloc::{AllocError, Global};
 

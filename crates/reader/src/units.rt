@@ -1,4 +1,4 @@
-// The entry of a competitive unit with its rows.
+// The price row of a competitive unit's values.
 ghost use Rattle.std.specs.Prelude.{◌≡◌, ◌*◌, take, drop};
 ghost use Rattle.hourfile.specs.Words.{words, value_at};
 ghost use Rattle.reader.specs.Progress.{row_made, unit_row};

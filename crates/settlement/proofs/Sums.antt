@@ -1,6 +1,7 @@
 -- The cost of kWh from one to another.
 use Rattle.std.proofs.Common.{◌≡◌, ℕ, zero, suc, ◌+◌, ◌-◌, ◌*◌, ◌<◌, ◌≤◌, min, cond, leb, sym, refl, ap, ◌∙◌, ⊎_elim, mul-suc, mul-add, arith}
 use Rattle.std.proofs.lemmas.Bool.{cases_lt, le-leb, lt-leb, cond-true, cond-false}
+use Rattle.curves.proofs.Costs.{cost_le, cost_flat}
 use Rattle.curves.specs.Prices.{cost_of}
 use Rattle.settlement.specs.Payments.{cost_between, lesser}
 
@@ -52,23 +53,10 @@ between_none price a b le =
     omega (arith, between price a b, ap (cost_of price) at)
 
 -- no cost is over 20,000,000,000,000
-pub cost_le : (price : ℕ → ℕ) → ((k : ℕ) → price k ≤ 10000000) → (n : ℕ) → n ≤ 2000000 → cost_of price n ≤ 20000000000000
-unfolding cost_of
-cost_le price each n le = omega (arith, by_kwh n)
-  where
-    by_kwh : (n : ℕ) → cost_of price n ≤ 10000000 * n
-    by_kwh zero = omega arith
-    by_kwh (suc n) = omega (arith, by_kwh n, each (suc n))
-
 pub between_bound : (price : ℕ → ℕ) → ((k : ℕ) → price k ≤ 10000000) → (a b : ℕ) → b ≤ 2000000 → cost_between price a b ≤ 20000000000000
 between_bound price each a b le = omega (arith, between price a b, cost_le price each b le)
 
 -- kWh of one price
-flat : (p n : ℕ) → cost_of (λ _. p) n ≡ p * n
-unfolding cost_of
-flat p zero = omega arith
-flat p (suc n) = omega (arith, flat p n, mul-suc p n)
-
 pub between_flat : (p a b : ℕ) → cost_between (λ _. p) a b ≡ p * (b - a)
 between_flat p a b =
     ⊎_elim
@@ -79,7 +67,7 @@ between_flat p a b =
     let at : min a b ≡ a = omega arith in
     let whole : b ≡ a + (b - a) = omega arith in
     let parts : p * b ≡ p * a + p * (b - a) = ap (λ n. p * n) whole ∙ mul-add p a (b - a) in
-    omega (arith, between (λ _. p) a b, ap (cost_of (λ _. p)) at, flat p a, flat p b, parts))
+    omega (arith, between (λ _. p) a b, ap (cost_of (λ _. p)) at, cost_flat p a, cost_flat p b, parts))
     (cases_lt b a)
   where
     zero_times : (p : ℕ) → p * 0 ≡ 0

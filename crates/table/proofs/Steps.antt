@@ -8,27 +8,13 @@ use Rattle.allocation.specs.Groups.{Group, price_at, sum_of}
 use Rattle.allocation.specs.Laws.{Split}
 use Rattle.allocation.proofs.Sums.{sum_cong}
 use Rattle.curves.specs.Limits.{read_energy}
-use Rattle.table.specs.Closing.{counts, limit_in, declared_in, allocated_to, unit_at, plant_group, GroupClosed, terms_of, SameUnits, SamePaid, OthersKept, Allotted, declared_by, committed_by, share_one, share_two, closed_plant, plant_at, PlantClosed, PlantResult, ClosedTo}
+use Rattle.table.specs.Closing.{counts, limit_in, declared_in, with_amount, allocated_to, unit_at, plant_group, GroupClosed, terms_of, SameUnits, SamePaid, OthersKept, Allotted, declared_by, committed_by, share_one, share_two, closed_plant, plant_at, PlantClosed, PlantResult, ClosedTo}
 use Rattle.settlement.specs.Shares.{group_one_share}
 use Rattle.table.specs.Effects.{with_plants, with_competitive, with_guaranteed}
 use Rattle.table.specs.Rows.{UnitTable, new_unit, new_plant}
 use Rattle.table.specs.declared.records.Plant.{Plant}
 use Rattle.table.specs.declared.records.Table.{Table}
 use Rattle.table.specs.declared.records.UnitRecord.{UnitRecord}
-
--- a unit with its amount
-abbrev with_amount : ℕ → UnitRecord → UnitRecord
-with_amount amount u =
-    record {
-      plant = u.plant;
-      declared = u.declared;
-      seasonal = u.seasonal;
-      internal = u.internal;
-      feeds = u.feeds;
-      aside = u.aside;
-      reading = u.reading;
-      figures = record { allocated = amount; billed = u.figures.billed; payment = u.figures.payment };
-    }
 
 -- an allocated unit has the terms that it had
 terms_kept : (plant amount : ℕ) (u : UnitRecord) → terms_of (allocated_to plant amount u) ≡ terms_of u

@@ -29,11 +29,10 @@ limit_in plant loss u = cond (counts plant u) (net_of u.internal loss (gross_of 
 abbrev pub declared_in : ℕ → UnitRecord → ℕ
 declared_in plant u = cond (counts plant u) (read_energy u.declared) 0
 
--- a unit of the plant gets its amount, and any other stays as it is
-abbrev pub allocated_to : ℕ → ℕ → UnitRecord → UnitRecord
-allocated_to plant amount u =
-    cond (u.plant == plant)
-    (record {
+-- a unit with its amount
+abbrev pub with_amount : ℕ → UnitRecord → UnitRecord
+with_amount amount u =
+    record {
       plant = u.plant;
       declared = u.declared;
       seasonal = u.seasonal;
@@ -42,7 +41,11 @@ allocated_to plant amount u =
       aside = u.aside;
       reading = u.reading;
       figures = record { allocated = amount; billed = u.figures.billed; payment = u.figures.payment };
-    }) u
+    }
+
+-- a unit of the plant gets its amount, and any other stays as it is
+abbrev pub allocated_to : ℕ → ℕ → UnitRecord → UnitRecord
+allocated_to plant amount u = cond (u.plant == plant) (with_amount amount u) u
 
 -- the unit at a place of a group's table
 abbrev pub unit_at : UnitTable → ℕ → UnitRecord

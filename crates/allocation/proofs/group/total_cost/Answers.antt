@@ -6,8 +6,9 @@ use Rattle.std.proofs.lemmas.Iterator.Consumers.{YieldsList-at, sum_by_from_yiel
 use Rattle.std.proofs.lemmas.Iterator.Adapters.{fits_from_length, at_most_from_yields_List}
 use Rattle.curves.specs.Limits.{read_energy}
 use Rattle.curves.specs.Prices.{cost_of}
+use Rattle.curves.proofs.Costs.{cost_le}
 use Rattle.allocation.specs.Groups.{sum_of, price_at, amount_at}
-use Rattle.allocation.proofs.Rows.{row_sum, cost_bound}
+use Rattle.allocation.proofs.Rows.{row_sum}
 use Rattle.allocation.proofs.group.total_cost.Goals as goal
 
 pub sum-requires-clause-fits : goal.sum-requires-clause-fits
@@ -22,7 +23,7 @@ sum-requires-clause-fits g c =
     (λ x r q k.
     let cost : (q ≡ _) × (r ≡ cost_of (g.O.Curve.prices x.0.now) (read_energy x.1.now)) = search (rules, tests) in (
       cost.0,
-      omega (arith, cost.1, cost_bound (g.O.Curve.prices x.0.now) (g.met.O.Curve.bounded x.0.now) (read_energy x.1.now) (omega arith)),
+      omega (arith, cost.1, cost_le (g.O.Curve.prices x.0.now) (g.met.O.Curve.bounded x.0.now) (read_energy x.1.now) (omega arith)),
     ))
 
 pub returns : goal.returns

@@ -3,10 +3,11 @@ use Rattle.std.proofs.lemmas.Bool.{cond-true, cond-false, eq-eqb, ne_eqb}
 use Rattle.curves.specs.Kinds.{modified_bounded, raised_price, raised_bounded}
 use Rattle.curves.specs.Limits.{read_energy, read_kwh}
 use Rattle.curves.specs.Prices.{cost_of}
+use Rattle.curves.proofs.Costs.{cost_le}
 use Rattle.settlement.specs.declared.payments.PaidUnit.{PaidUnit}
 use Rattle.settlement.specs.Payments.{cost_between, lesser, billed, committed, first_part, second_part, modified, sum_a, sum_b, sum_c}
 use Rattle.settlement.proofs.Bounds.{billed_le, first_le, second_le, lesser_le, payment_le}
-use Rattle.settlement.proofs.Sums.{from_start, cost_le, between_bound, lesser_from}
+use Rattle.settlement.proofs.Sums.{from_start, between_bound, lesser_from}
 use Rattle.settlement.proofs.payments.competitive_payment.Goals as goal
 use Rattle.settlement.proofs.payments.competitive_payment.Goals.{then-paid_a-eq0, else-paid_a-eq0}
 

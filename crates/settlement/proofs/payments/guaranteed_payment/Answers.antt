@@ -1,7 +1,8 @@
 use Rattle.std.proofs.Common.{◌*◌, ap, arith}
 use Rattle.curves.specs.Limits.{read_energy}
+use Rattle.curves.proofs.Costs.{cost_le}
 use Rattle.settlement.proofs.Quotients.{saved_le}
-use Rattle.settlement.proofs.Sums.{from_start, cost_le}
+use Rattle.settlement.proofs.Sums.{from_start}
 use Rattle.settlement.proofs.payments.guaranteed_payment.Goals as goal
 
 pub overflow_add-result : goal.overflow_add-result

@@ -6,7 +6,7 @@ use Rattle.reader.specs.Progress.{call}
 use Rattle.reader.specs.Progress.Progress.{Closed}
 use Rattle.reader.specs.Reached.{Taken}
 use Rattle.reader.specs.declared.reached.Reached.TheVariants.{Closed as ClosedAt, Settled}
-use Rattle.reader.proofs.steps.on_closed.Goals as goal
+use Rattle.reader.proofs.calls.on_closed.Goals as goal
 
 pub returns-in-Settle : goal.returns-in-Settle
 returns-in-Settle c = λ t m r.

@@ -5,7 +5,7 @@ use Rattle.reader.specs.Progress.{call, opened}
 use Rattle.reader.specs.Progress.Progress.{Unopened}
 use Rattle.reader.specs.Reached.{Taken}
 use Rattle.reader.specs.declared.reached.Reached.TheVariants.{Open}
-use Rattle.reader.proofs.steps.first.Goals as goal
+use Rattle.reader.proofs.calls.first.Goals as goal
 
 pub returns-in-Ok : goal.returns-in-Ok
 returns-in-Ok c = λ rows none.

@@ -7,7 +7,7 @@ use Rattle.reader.specs.Progress.{call}
 use Rattle.reader.specs.Progress.Progress.{Opened}
 use Rattle.reader.specs.Reached.{Taken}
 use Rattle.reader.specs.declared.reached.Reached.TheVariants.{Open, Closed}
-use Rattle.reader.proofs.steps.on_open.Goals as goal
+use Rattle.reader.proofs.calls.on_open.Goals as goal
 
 pub returns-in-Close : goal.returns-in-Close
 returns-in-Close c = λ t m r.
