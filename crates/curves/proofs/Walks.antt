@@ -17,14 +17,15 @@ rest_here r last k xs i d p w lt priced wide h =
     let here : k ≤ read_kwh s.width = omega arith in
     ap (λ ss. rest r last ss k) (drop_more xs i d lt) ∙ cond-true _ _ _ (le-leb k (read_kwh s.width) here) ∙ sym priced
 
--- kWh k comes after it
-pub rest_past : (r : Bool) (last k : ℕ) (xs : List Step) (i : ℕ) (d : Step) (p w : ℕ) → i < length xs → p ≡ price_read r last (get_or xs i d) → w ≡ read_kwh (get_or xs i d).width → w < k → rest r last (drop i xs) k ≡ rest r p (drop (i + 1) xs) (k - w)
-rest_past r last k xs i d p w lt priced wide h =
+-- that step begins after kWh `start`, and kWh k comes after it
+pub rest_past : (r : Bool) (last start k : ℕ) (xs : List Step) (i : ℕ) (d : Step) (p w : ℕ) → i < length xs → p ≡ price_read r last (get_or xs i d) → w ≡ read_kwh (get_or xs i d).width → start + w < k → rest r last (drop i xs) (k - start) ≡ rest r p (drop (i + 1) xs) (k - (start + w))
+rest_past r last start k xs i d p w lt priced wide h =
     let s = get_or xs i d in
-    let past : read_kwh s.width < k = omega arith in
-    ap (λ ss. rest r last ss k) (drop_more xs i d lt) ∙ cond-false _ _ _ (lt-leb k (read_kwh s.width) past)
-    ∙ ap (λ q. rest r q (drop (i + 1) xs) (k - read_kwh s.width)) (sym priced)
-    ∙ ap (λ v. rest r p (drop (i + 1) xs) (k - v)) (sym wide)
+    let past : read_kwh s.width < k - start = omega arith in
+    let left : k - start - read_kwh s.width ≡ k - (start + w) = omega arith in
+    ap (λ ss. rest r last ss (k - start)) (drop_more xs i d lt) ∙ cond-false _ _ _ (lt-leb (k - start) (read_kwh s.width) past)
+    ∙ ap (λ q. rest r q (drop (i + 1) xs) (k - start - read_kwh s.width)) (sym priced)
+    ∙ ap (λ m. rest r p (drop (i + 1) xs) m) left
 
 -- no step is left
 pub rest_none : (r : Bool) (last k : ℕ) (xs : List Step) (i : ℕ) → length xs ≤ i → rest r last (drop i xs) k ≡ last

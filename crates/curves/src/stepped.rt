@@ -47,4 +47,8 @@ impl<const RISES: bool> Curve for Stepped<RISES> {
 
 impl Offer for SteppedOffer {
     ghost rises = { stepped_offer_rises };
+
+    fn count_at_most(&self, energy: u32, price: u32) -> u32 {
+        self.table.count_before_dearer(true, energy, price)
+    }
 }

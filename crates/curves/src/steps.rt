@@ -1,10 +1,11 @@
 // Lists of steps, as the stepped offer and the stepped cost hold them.
 ghost use Rattle.std.specs.Prelude.{◌≡◌, ◌<◌, ◌≤◌, length, take, IfOk};
-ghost use Rattle.curves.specs.Limits.{read_kwh, read_count};
+ghost use Rattle.curves.specs.Limits.{read_energy, read_kwh, read_count};
+ghost use Rattle.curves.specs.Prices.{BeforeDearer};
 ghost use Rattle.curves.specs.Refusals.{price_falls, widths_fit, prices_fit, padded_steps, table_made};
 ghost use Rattle.curves.specs.Steps.{step_price, read_from, price_read, steps_of, LevelAt};
 
-use crate::limits::{MAX_KWH, MAX_PRICE, read_kwh};
+use crate::limits::{MAX_KWH, MAX_PRICE, read_energy, read_kwh};
 use crate::refusals::CurveRefusal;
 
 // The most steps of a curve.
@@ -96,6 +97,28 @@ pub(crate) fn level_in(steps: &[Step], rises: bool, kwh: u32) -> Level
     }
 }
 
+// How many of the first `energy` kWh come before the first step that costs more than `price`, by a list of steps as it
+// is read. One walk: by stretches each would be looked up from the first step.
+fn count_in(steps: &[Step], rises: bool, energy: u32, price: u32) -> u32
+    ensures { BeforeDearer (step_price (read_from rises 0 steps.now)) (read_energy energy) price result }
+{
+    let energy = read_energy(energy);
+    let mut done = 0u32;
+    let mut last = 0u32;
+    for step in steps {
+        last = step.price_read(rises, last);
+        if last > price {
+            return done;
+        }
+        let width = read_kwh(step.width);
+        if energy - done <= width {
+            return energy;
+        }
+        done += width;
+    }
+    energy
+}
+
 impl StepTable {
     // The table of a list of steps, or the list's refusal.
     pub(crate) fn make(list: &[Step], rises: bool) -> Result<StepTable, CurveRefusal>
@@ -132,5 +155,12 @@ impl StepTable {
         ensures { LevelAt (step_price (steps_of rises self.now)) (read_kwh kwh) result }
     {
         level_in(self.used(), rises, kwh)
+    }
+
+    // How many of the first `energy` kWh come before the first that costs more than `price`.
+    pub(crate) fn count_before_dearer(&self, rises: bool, energy: u32, price: u32) -> u32
+        ensures { BeforeDearer (step_price (steps_of rises self.now)) (read_energy energy) price result }
+    {
+        count_in(self.used(), rises, energy, price)
     }
 }

@@ -3,7 +3,7 @@ ghost use Rattle.std.specs.Prelude.{◌≡◌};
 ghost use Rattle.curves.specs.Kinds.{tariff_price, tariff_bounded, tariff_rises};
 ghost use Rattle.curves.specs.Refusals.{tariff_made};
 
-use crate::limits::{MAX_KWH, MAX_PRICE};
+use crate::limits::{MAX_KWH, MAX_PRICE, read_energy};
 use crate::refusals::CurveRefusal;
 use crate::traits::{Curve, Offer};
 
@@ -41,4 +41,13 @@ impl Curve for Tariff {
 
 impl Offer for Tariff {
     ghost rises = { tariff_rises };
+
+    // At one rate it is all or nothing.
+    fn count_at_most(&self, energy: u32, price: u32) -> u32 {
+        if self.price(1) > price {
+            0
+        } else {
+            read_energy(energy)
+        }
+    }
 }

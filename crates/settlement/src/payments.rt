@@ -130,11 +130,11 @@ pub fn competitive_payment<O: Curve, C: Curve>(
 
 /// What a guaranteed unit is paid: its billed energy by its offer, and the transmission that it saves if it feeds the
 /// distribution grid.
-pub fn guaranteed_payment<O: Curve>(offer: &O, billed: u32, feeds: u32, saving: u32) -> u64
-    ensures value { result ≡ guaranteed_payment billed (O.prices offer.now) feeds saving }
+pub fn guaranteed_payment<O: Curve>(offer: &O, bill: u32, feeds: u32, saving: u32) -> u64
+    ensures value { result ≡ guaranteed_payment bill (O.prices offer.now) feeds saving }
     ensures bound { result ≤ 8609934590000000 }
 {
     // `feeds` is a number, since callers give any, and each has a meaning.
-    let saved = billed.min(MAX_KWH) as u64 * feeds.min(1) as u64 * saving as u64;
-    offer.cost(billed) + saved
+    let saved = bill.min(MAX_KWH) as u64 * feeds.min(1) as u64 * saving as u64;
+    offer.cost(bill) + saved
 }

@@ -8,7 +8,7 @@ use Rattle.settlement.proofs.payments.guaranteed_payment.Goals as goal
 pub overflow_add-result : goal.overflow_add-result
 overflow_add-result g c =
     let price = g.O.Curve.prices c.args.offer.now in
-    let energy = read_energy c.args.billed in
+    let energy = read_energy c.args.bill in
     omega (
       arith,
       c.cost.ensures,
@@ -19,7 +19,7 @@ overflow_add-result g c =
 pub returns : goal.returns
 returns g c =
     let price = g.O.Curve.prices c.args.offer.now in
-    let energy = read_energy c.args.billed in
+    let energy = read_energy c.args.bill in
     record {
       value = omega (
         arith,
