@@ -4,7 +4,7 @@ use Rattle.curves.specs.declared.refusals.CurveRefusal.{CurveRefusal}
 use Rattle.curves.specs.declared.refusals.CurveRefusal.TheVariants.{Steps, Price}
 use Rattle.curves.specs.declared.tariff.Tariff.{Tariff}
 use Rattle.curves.specs.declared.stepped.Stepped.{Stepped}
-use Rattle.curves.specs.Kinds.{SteppedOffer, SteppedCost}
+use Rattle.curves.specs.Kinds.{SteppedOffer}
 use Rattle.curves.specs.declared.steps.Step.{Step}
 use Rattle.curves.specs.declared.steps.StepTable.{StepTable}
 

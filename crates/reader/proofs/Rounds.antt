@@ -7,7 +7,6 @@ use Rattle.hourfile.specs.Format.{First, first}
 use Rattle.hourfile.specs.Reading.{Rest, At, found_at, found_next, rest_after, after_next}
 use Rattle.hourfile.specs.declared.faults.Cause.{Cause}
 use Rattle.hourfile.specs.declared.faults.FileFault.{FileFault}
-use Rattle.hourfile.proofs.Advancing.{got}
 use Rattle.reader.specs.Outcome.{Outcome, end_fault, stopped, go_on, found_there, read_on, end_of}
 use Rattle.reader.specs.Progress.{Progress, call}
 use Rattle.reader.specs.Progress.Progress.{Unopened, Opened, Closed, Settled}
@@ -21,6 +20,11 @@ use Rattle.reader.specs.declared.reached.Reached.TheVariants.{Unopened as NoHour
 none_left : (place : ℕ) (ws : List ℕ) → length ws ≤ 0 → found_at place (first ws) ≡ Ok None
 none_left place [] few = refl
 none_left place (w ∷ ws) few = absurd (omega (arith, few))
+
+-- a record that was found
+abbrev found_one : Result (Option At) FileFault → Option At
+found_one (Ok o) = o
+found_one (Err fault) = None
 
 ends : (n : ℕ) (r : Rest) (p : Progress) → found_next r ≡ Ok None → read_on n r p ≡ record { progress = p; fault = end_fault r.place p }
 unfolding read_on
@@ -46,7 +50,7 @@ goes (suc n) r p at few one =
 -- at the end nothing is read
 stays_by : (r : Rest) (o : Result (Option First) Cause) → found_at r.place o ≡ Ok None → rest_after r o ≡ r
 stays_by r (Ok None) none = refl
-stays_by r (Ok (Some f)) none = absurd (true≢false (ap (λ x. is_some (got x)) none))
+stays_by r (Ok (Some f)) none = absurd (true≢false (ap (λ x. is_some (found_one x)) none))
 stays_by r (Err cause) none = absurd (true≢false (ap is_ok (sym none)))
 
 pub stays_there : (r : Rest) → found_next r ≡ Ok None → after_next r ≡ r

@@ -1,5 +1,5 @@
 -- The cost of kWh from one to another.
-use Rattle.std.proofs.Common.{◌≡◌, ℕ, zero, suc, ◌+◌, ◌-◌, ◌*◌, ◌<◌, ◌≤◌, min, cond, leb, sym, refl, ap, ◌∙◌, ⊎_elim, mul-suc, mul-add, arith}
+use Rattle.std.proofs.Common.{◌≡◌, ℕ, zero, suc, ◌+◌, ◌-◌, ◌*◌, ◌<◌, ◌≤◌, min, cond, leb, sym, refl, ap, ◌∙◌, ⊎_elim, mul-add, arith}
 use Rattle.std.proofs.lemmas.Bool.{cases_lt, le-leb, lt-leb, cond-true, cond-false}
 use Rattle.curves.proofs.Costs.{cost_le, cost_flat}
 use Rattle.curves.specs.Prices.{cost_of}
