@@ -3,7 +3,6 @@ use Rattle.std.proofs.Common.{◌≡◌, ℕ, zero, suc, ◌+◌, ◌-◌, ◌<�
 use Rattle.std.proofs.lemmas.Bool.{cases_lt, cases_eq}
 use Rattle.allocation.specs.Groups.{Group, sum_of, total}
 use Rattle.allocation.specs.Merit.{Before, MeritOrder}
-use Rattle.allocation.specs.Units.{SameUnits}
 use Rattle.allocation.specs.Supply.{up_to, below, Parted, Clearing, Filled}
 use Rattle.allocation.proofs.Sums.{sum_none, sum_more, sum_cong, sum_le}
 use Rattle.allocation.proofs.Counts.{count_le, count_rises, count_all, count_below, count_none, cheaper_first}
@@ -43,7 +42,7 @@ filled_none g p before a = record {
 }
 
 -- where a fact holds below n and at n, it holds below n + 1
-below_more : (P : ℕ → Type 0) (n : ℕ) → ((i : ℕ) → i < n → P i) → P n → (i : ℕ) → i < n + 1 → P i
+pub below_more : (P : ℕ → Type 0) (n : ℕ) → ((i : ℕ) → i < n → P i) → P n → (i : ℕ) → i < n + 1 → P i
 below_more P n each here i lt =
     ⊎_elim (λ (same : i ≡ n). rw same here) (λ (other : i ≡ n → ⊥). each i (omega arith)) (cases_eq i n)
 
@@ -114,26 +113,3 @@ filled_merit g share p before after a bounded clearing rest filled =
       },
       omega arith,
     )
-
--- the merit order of the same amounts over the same units
-pub merit_same : (g h : Group) (share : ℕ) (a b : ℕ → ℕ) → SameUnits g h → ((i : ℕ) → i < g.units → b i ≡ a i) → MeritOrder h share a → MeritOrder g share b
-merit_same g h share a b units same merit = record {
-  within = λ i lt. omega (arith, same i lt, units.limited i lt, merit.within i (omega (arith, units.number)));
-  covered = omega (
-    arith,
-    sum_cong g.units b a same,
-    ap (λ n. sum_of n a) units.number,
-    sum_cong g.units h.limit g.limit units.limited,
-    ap (λ n. sum_of n h.limit) units.number,
-    merit.covered,
-  );
-  order = λ i k j m it jt low high above within. before_same i k j m it jt
-      (merit.order i k j m (omega (arith, units.number)) (omega (arith, units.number)) low
-      (omega (arith, same i it)) (omega (arith, same j jt)) (omega (arith, units.limited j jt)));
-}
-  where
-    before_same : (i k j m : ℕ) → i < g.units → j < g.units → Before h i k j m → Before g i k j m
-    before_same i k j m it jt =
-        ⊎_elim
-        (λ (less : h.price i k < h.price j m). inl (omega (arith, units.priced i k it, units.priced j m jt)))
-        (λ equal. inr (omega (arith, units.priced i k it, units.priced j m jt, equal.0), equal.1))

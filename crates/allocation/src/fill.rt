@@ -1,10 +1,10 @@
 // The split itself.
-ghost use Rattle.std.specs.Prelude.{◌≡◌, suc, length};
+ghost use Rattle.std.specs.Prelude.{◌≡◌, ℕ, suc, ◌<◌, length};
 ghost use Rattle.curves.specs.Limits.{read_energy};
 ghost use Rattle.curves.specs.Prices.{AtMost};
 ghost use Rattle.allocation.specs.Groups.{group_of, amount_at};
 ghost use Rattle.allocation.specs.Laws.{Split};
-ghost use Rattle.allocation.specs.Units.{units_in};
+ghost use Rattle.allocation.specs.Units.{place_in, units_in};
 ghost use Rattle.allocation.specs.Supply.{Filled};
 
 use crate::group::Units;
@@ -20,19 +20,21 @@ fn count_below<O: Offer>(offer: &O, energy: u32, price: u32) -> u32
 }
 
 impl<'a, O: Offer> Units<'a, O> {
-    // Gives each unit its kWh cheaper than `price`, and `left` more at that price, unit by unit; answers what is then
-    // left.
+    // Gives each busy unit its kWh cheaper than `price`, and `left` more at that price, unit by unit; answers what is
+    // then left.
     fn fill(&self, price: u32, left: u32, amounts: &mut [u32]) -> u32
-        requires { length amounts.old ≡ length self.now.offers.now }
-        ensures { let g = units_in O.Curve.prices self.now in Filled g g.units price left result (amount_at amounts.new) }
+        requires { (i : ℕ) → i < self.now.count → place_in self.now i < length amounts.old }
+        ensures filled { let g = units_in O.Curve.prices self.now in Filled g g.units price left result (λ i. amount_at amounts.new (place_in self.now i)) }
+        ensures others { (j : ℕ) → ((i : ℕ) → i < self.now.count → place_in self.now i ≡ j → ⊥) → amount_at amounts.new j ≡ amount_at amounts.old j }
     {
         let mut rest = left;
-        // `iter_mut` in the `zip` would leave the proof with nothing of the amounts.
-        for (i, (offer, limit)) in self.offers.iter().zip(self.limits).enumerate() {
-            let cheaper = count_below(offer, *limit, price);
-            let marginal = offer.count_at_most(*limit, price) - cheaper;
+        for place in self.places() {
+            let place = *place as usize;
+            let (offer, limit) = (&self.offers[place], self.limits[place]);
+            let cheaper = count_below(offer, limit, price);
+            let marginal = offer.count_at_most(limit, price) - cheaper;
             let more = marginal.min(rest);
-            amounts[i] = cheaper + more;
+            amounts[place] = cheaper + more;
             rest -= more;
         }
         rest
@@ -46,7 +48,6 @@ pub fn split<O: Offer>(offers: &[O], limits: &[u32], share: u32, amounts: &mut [
     let units = Units::new(offers, limits, amounts.len());
     let price = units.marginal_price(share);
     let rest = share - units.supply_below(price);
-    let (taken, others) = amounts.split_at_mut(units.len());
-    others.fill(0);
-    units.fill(price, rest, taken)
+    amounts.fill(0);
+    units.fill(price, rest, amounts)
 }

@@ -12,11 +12,12 @@ impl<'a, O: Offer> Units<'a, O> {
     fn supply_up_to(&self, price: u32) -> u32
         ensures { let g = units_in O.Curve.prices self.now in result ≡ total g (up_to g price) }
     {
-        self.offers
-            .iter()
-            .zip(self.limits)
-            .map(|(offer, limit)| offer.count_at_most(*limit, price))
-            .sum()
+        let mut supply = 0u32;
+        for place in self.places() {
+            let place = *place as usize;
+            supply += self.offers[place].count_at_most(self.limits[place], price);
+        }
+        supply
     }
 
     // The units' kWh that cost less than `price`.

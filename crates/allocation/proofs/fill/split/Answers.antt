@@ -1,10 +1,11 @@
-use Rattle.std.proofs.Common.{rules, ◌≡◌, ℕ, ◌-◌, ◌<◌, ◌++◌, length, get_or, refl, ap, ⊎_elim, ◌∙◌, arith}
-use Rattle.std.proofs.lemmas.List.{get_or_append_left, get_or-append_right, get_or_past}
+use Rattle.std.proofs.Common.{rules, ◌≡◌, ℕ, ◌<◌, length, get_or, List, ap, subst, ⊎_elim, ◌∙◌, arith}
+use Rattle.std.proofs.lemmas.List.{get_or_past}
 use Rattle.std.proofs.lemmas.Bool.{cases_lt}
-use Rattle.allocation.specs.Groups.{sum_of, group_of, amount_at}
-use Rattle.allocation.specs.Units.{units_in}
-use Rattle.allocation.proofs.Sums.{sum_cong}
-use Rattle.allocation.proofs.Fills.{supply_below, filled_merit, merit_same}
+use Rattle.allocation.specs.Groups.{units_of, group_of, amount_at}
+use Rattle.allocation.specs.Merit.{MeritOrder}
+use Rattle.allocation.specs.Units.{BusyPlaces, part_of, place_in, units_in}
+use Rattle.allocation.proofs.Fills.{supply_below, filled_merit}
+use Rattle.allocation.proofs.Busy.{merit_busy}
 use Rattle.allocation.proofs.Orders.{split_of}
 use Rattle.allocation.proofs.Rows.{price_bounded}
 use Rattle.allocation.proofs.fill.split.Goals as goal
@@ -16,21 +17,25 @@ overflow_sub-rest g c =
 
 pub returns : goal.returns
 returns g c =
-    let group = group_of g.O.Curve.prices c.args.offers.now c.args.limits.now (length c.args.amounts.now) in
-    let units = units_in g.O.Curve.prices c.new-units.result in
+    let prices = g.O.Curve.prices in
+    let group = group_of prices c.args.offers.now c.args.limits.now (length c.args.amounts.now) in
+    let units = c.new-units.result in
+    let place = place_in units in
+    let places : BusyPlaces group.limit group.units units.count place = c.new-units.ensures.busy in
     let share = c.args.share in
-    let taken = c.fill-2.new.amounts in
-    let row = amount_at (taken ++ c.fill.new.self) in
+    let row = amount_at c.fill-2.new.amounts in
     let left = c.fill-2.result in
-    let long : length taken ≡ units.units = omega (arith, c.split_at_mut-taken.ensures.front_len, c.len.ensures, c.fill-2.auto.amounts) in
-    let found = filled_merit units share c.marginal_price-price.result _ left (amount_at taken)
-    (price_bounded g.O.Curve.prices 10000000 g.met.O.Curve.bounded c.new-units.result.offers.now) c.marginal_price-price.ensures
-    (omega (arith, c.supply_below.ensures)) c.fill-2.ensures in
-    let kept : (i : ℕ) → i < group.units → row i ≡ amount_at taken i = λ i lt. get_or_append_left taken c.fill.new.self 0 i (omega (arith, long, c.new-units.ensures.number)) in
-    let cleared : (i : ℕ) → get_or c.fill.new.self i 0 ≡ 0 = λ i. ⊎_elim
-    (λ (lt : i < length c.fill.new.self). search rules)
-    (λ past. get_or_past c.fill.new.self i 0 past)
-    (cases_lt i (length c.fill.new.self)) in
-    split_of group share row left (merit_same group units share (amount_at taken) row c.new-units.ensures kept found.0)
-    (omega (arith, found.1, sum_cong group.units row (amount_at taken) kept, ap (λ n. sum_of n (amount_at taken)) c.new-units.ensures.number))
-    (λ i from. get_or-append_right taken c.fill.new.self (length taken) i 0 refl (omega (arith, long, c.new-units.ensures.number)) ∙ cleared (i - length taken))
+    let found = filled_merit (units_in prices units) share c.marginal_price-price.result _ left (λ i. row (place i))
+    (λ i k. price_bounded prices 10000000 g.met.O.Curve.bounded units.offers.now (place i) k) c.marginal_price-price.ensures
+    (omega (arith, c.supply_below.ensures)) c.fill-2.ensures.filled in
+    let cleared : (j : ℕ) → get_or c.fill.new.self j 0 ≡ 0 = λ j. ⊎_elim
+    (λ (lt : j < length c.fill.new.self). search rules)
+    (λ past. get_or_past c.fill.new.self j 0 past)
+    (cases_lt j (length c.fill.new.self)) in
+    let none : (j : ℕ) → ((i : ℕ) → i < units.count → place i ≡ j → ⊥) → row j ≡ 0 = λ j other. c.fill-2.ensures.others j other ∙ cleared j in
+    let idle : (j : ℕ) → j < group.units → group.limit j ≡ 0 → row j ≡ 0 = λ j lt idle. none j (λ i at same. omega (arith, places.busy i at, ap group.limit same)) in
+    let part = λ (offers : List g.row.O.Denot) (limits : List ℕ). MeritOrder (part_of (units_of prices offers limits units.count) units.count place) share (λ i. row (place i)) in
+    let merit = subst (part c.args.offers.now) c.new-units.ensures.limits (subst (λ offers. part offers units.limits.now) c.new-units.ensures.offers found.0) in
+    split_of group share row left (merit_busy group share units.count place row places idle merit)
+    (omega (arith, found.1, places.sum row idle))
+    (λ j from. none j (λ i at same. omega (arith, places.inside i at)))

@@ -1,30 +1,28 @@
-use Rattle.std.proofs.Common.{rules, tests, ◌≡◌, ℕ, length, take, sym, ap, ◌∙◌, arith}
-use Rattle.std.specs.List.{sum_by, zip}
-use Rattle.std.proofs.lemmas.List.{take_all}
-use Rattle.std.proofs.lemmas.Slice.Zip.{length-zip}
-use Rattle.std.proofs.lemmas.Iterator.{YieldsList-from_slice, YieldsList-from_zip, YieldsList-from_map}
-use Rattle.std.proofs.lemmas.Iterator.Consumers.{YieldsList-at, sum_by_from_yields_List}
+use Rattle.std.proofs.Common.{◌≡◌, ◌<◌, slice_index, sym, ap, arith}
 use Rattle.curves.specs.Limits.{read_energy}
-use Rattle.curves.specs.Prices.{AtMost}
-use Rattle.allocation.specs.Groups.{sum_of, price_at, amount_at}
-use Rattle.allocation.specs.Supply.{count_of}
+use Rattle.allocation.specs.Units.{place_in, units_in}
+use Rattle.allocation.specs.Supply.{up_to}
+use Rattle.allocation.proofs.Sums.{sum_none, sum_more}
 use Rattle.allocation.proofs.Counts.{count_is}
-use Rattle.allocation.proofs.Rows.{row_sum}
+use Rattle.allocation.proofs.Rows.{price_read, at_most_same}
 use Rattle.allocation.proofs.group.Units.supply_up_to.Goals as goal
 
-pub returns : goal.returns
-returns g c =
-    let offers = c.args.self.now.offers.now in
-    let limits = c.args.self.now.limits.now in
-    let count = λ (price : ℕ → ℕ) (limit : ℕ). count_of price (read_energy limit) c.args.price in
-    let whole : take (length offers) (zip offers limits) ≡ zip offers limits = take_all (length offers) (zip offers limits) (omega (arith, length-zip offers limits)) in
-    sum_by_from_yields_List _ (zip offers limits) c.map.result _ c.sum.ensures.ran
-    (YieldsList-from_map _ (λ p. count (g.O.Curve.prices p.0) p.1)
-    (YieldsList-at c.map.ensures.source (YieldsList-from_zip (YieldsList-from_slice offers (cc)) (YieldsList-from_slice limits (cc))))
-    c.map.ensures.closure
-    (λ x r q k.
-    let counted : (q ≡ _) × AtMost (g.O.Curve.prices x.0.now) (read_energy x.1.now) c.args.price r = search (rules, tests) in
-    (counted.0, count_is _ _ _ _ counted.1)))
-    ∙ ap (sum_by (λ p. count (g.O.Curve.prices p.0) p.1)) (sym whole)
-    ∙ row_sum g.O.Curve.prices count (length offers) offers limits
-    ∙ ap (λ n. sum_of n (λ i. count (price_at g.O.Curve.prices offers i) (amount_at limits i))) (omega arith)
+pub loop-place-init : goal.loop-place-init
+loop-place-init g c = (omega (arith, sum_none (up_to (units_in g.O.Curve.prices c.args.self.now) c.args.price)), omega arith)
+
+pub loop-place-preserved : goal.loop-place-preserved
+loop-place-preserved g c =
+    let units = c.args.self.now in
+    let group = units_in g.O.Curve.prices units in
+    let i = c.loop-place.place-index in
+    let lt : i < units.count = omega (arith, c.loop-place-test.true, c.places-place-items.ensures.number) in
+    let place = slice_index c.places-place-items.result.now i in
+    let at : place ≡ place_in units i = c.places-place-items.ensures.each i lt in
+    let within = units.inside i lt in
+    let counted = at_most_same (group.price i) _ (group.limit i) _ c.args.price c.count_at_most-supply.result
+    (price_read g.O.Curve.prices units.offers.now (place_in units i) place c.index-self-place.result at (omega arith))
+    (ap (λ p. read_energy (slice_index units.limits.now p)) (sym at)) c.count_at_most-supply.ensures.count in
+    let count = count_is _ _ _ _ counted in (
+      omega (arith, sum_more i (up_to group c.args.price), count),
+      omega (arith, counted.within),
+    )
