@@ -1,4 +1,5 @@
 -- The figures of a settled hour are one function of header, accepted calls and rows.
+use Rattle.table.specs.Places.{unit_at, plant_at}
 use Rattle.std.proofs.Common.{◌≡◌, ℕ, ◌+◌, ◌-◌, ◌<◌, List, length, sym, ap, ◌∙◌, ⊎_elim, arith}
 use Rattle.std.proofs.lemmas.Bool.{cases_lt, lt-ltb, eq-eqb, cond-true, and_from}
 use Rattle.allocation.specs.Groups.{Group}
@@ -9,7 +10,6 @@ use Rattle.settling.specs.Derived.{found_in}
 use Rattle.settling.specs.Figures.{Pay, unit_figures}
 use Rattle.settling.specs.declared.header.Header.{Header}
 use Rattle.table.proofs.Accepted.{units_placed}
-use Rattle.table.specs.Closing.{unit_at, plant_at}
 use Rattle.table.specs.ClosingLaw.{group_in, share_one_in, share_two_in, amount_in, ClosingLaw}
 use Rattle.table.specs.History.{plants_in, units_in, unit_in, Proper}
 use Rattle.table.specs.Rows.{UnitTable}

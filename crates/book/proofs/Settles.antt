@@ -1,4 +1,5 @@
 -- Settling a closed hour leads to the law of a settled one.
+use Rattle.table.specs.Places.{unit_at, plant_at, buyer_at}
 use Rattle.std.proofs.Common.{◌≡◌, ℕ, zero, suc, ◌+◌, ◌-◌, ◌<◌, ◌≤◌, min, cond, ◌&&◌, eqb, ltb, List, length, ℤ, pos, ◌+ℤ◌, sym, refl, ap, ◌∙◌, subst, ⊎_elim, arith}
 use mathlib.Core.Path.{fun_ext}
 use Rattle.std.proofs.lemmas.Bool.{cases_lt, le-ltb, cond-false, and_left}
@@ -10,10 +11,9 @@ use Rattle.settling.proofs.Nets.{nets_add_up}
 use Rattle.settling.specs.Derived.{Found, ledger_in, found_in, sum_z, NetsAddUp}
 use Rattle.settling.specs.Figures.{Pay, unit_figures, plant_figures, buyer_figures, hour_figures, net_in, unassigned_in}
 use Rattle.settling.specs.Ledger.{UnitCase, PlantCase, ledger_of}
-use Rattle.settling.specs.Settled.{GroupSettled, Settled, buyer_at}
+use Rattle.settling.specs.Settled.{GroupSettled, Settled}
 use Rattle.settling.specs.declared.header.Header.{Header}
 use Rattle.table.proofs.Accepted.{all_named}
-use Rattle.table.specs.Closing.{unit_at, plant_at}
 use Rattle.table.specs.ClosingLaw.{group_in, share_one_in, share_two_in, amount_in, ClosingLaw}
 use Rattle.table.specs.History.{plants_in, units_in, unit_in, buyers_in, sold_in, loss_in, Proper, UnitsStand, Stands}
 use Rattle.table.specs.Metered.{Metered}

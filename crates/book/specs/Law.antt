@@ -1,12 +1,11 @@
 -- The law over runs: what holds of an hour after any list of calls, by the accepted calls alone. Amounts, run support, net
 -- purchases and unassigned energy are the book's own; limits, shares, commitments and billed energy are derived.
+use Rattle.table.specs.Places.{unit_at, plant_at, buyer_at}
 use Rattle.std.specs.Prelude.{◌≡◌, ℕ, ◌<◌, ◌≤◌, List, [], length, take, slice_index_or}
 use Rattle.settling.specs.Derived.{ledger_in, found_in, NetsAddUp}
 use Rattle.settling.specs.Figures.{Pay, unit_figures, plant_figures, buyer_figures, hour_figures}
 use Rattle.settling.specs.Ledger.{Ledger}
-use Rattle.settling.specs.Settled.{buyer_at}
 use Rattle.settling.specs.declared.header.Header.{Header}
-use Rattle.table.specs.Closing.{unit_at, plant_at}
 use Rattle.table.specs.ClosingLaw.{ClosingLaw}
 use Rattle.table.specs.History.{plants_in, units_in, buyers_in, view_in, accepted, answer_in}
 use Rattle.table.specs.Metered.{accepted_readings, reading_answer_in}

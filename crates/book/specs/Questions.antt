@@ -1,8 +1,8 @@
 -- Questions of a settled hour: figures by number, or which row of the table of refusals applies.
-use Rattle.std.specs.Prelude.{ℕ, ◌-◌, min, Bool, cond, Ok, Err, Result, ◌==◌, slice_index_or}
-use Rattle.table.specs.Closing.{unit_at, plant_at}
+use Rattle.table.specs.Places.{unit_at, plant_at, buyer_at}
+use Rattle.std.specs.Prelude.{ℕ, ◌-◌, min, Bool, cond, Ok, Err, Result, ◌==◌}
 use Rattle.table.specs.Entries.{lacks}
-use Rattle.table.specs.Rows.{UnitTable, new_buyer}
+use Rattle.table.specs.Rows.{UnitTable}
 use Rattle.table.specs.declared.records.BuyerFigures.{BuyerFigures}
 use Rattle.table.specs.declared.records.PlantFigures.{PlantFigures}
 use Rattle.table.specs.declared.records.Table.{Table}
@@ -27,4 +27,4 @@ plant_answer number t =
 
 abbrev pub buyer_answer : ℕ → Table → Result BuyerFigures BookRefusal
 buyer_answer number t =
-    cond (lacks_row number t.buyers.count 64) (Err NoBuyer) (Ok (slice_index_or t.buyers.rows (number - 1) (new_buyer 0)).figures)
+    cond (lacks_row number t.buyers.count 64) (Err NoBuyer) (Ok (buyer_at t (number - 1)).figures)

@@ -1,9 +1,9 @@
 -- What the units come to when they are settled are the sums of the ledger's figures.
+use Rattle.table.specs.Places.{unit_at}
 use Rattle.std.proofs.Common.{◌≡◌, ℕ, ◌+◌, ◌<◌, min, Bool, true, false, cond, eqb, List, Some, None, Option, refl, ap, ◌∙◌}
 use Rattle.allocation.specs.Groups.{sum_of}
 use Rattle.allocation.proofs.Sums.{sum_cong}
 use Rattle.settlement.specs.Support.{active_of}
-use Rattle.table.specs.Closing.{unit_at}
 use Rattle.table.specs.Rows.{UnitTable}
 use Rattle.table.specs.declared.records.Plant.{Plant}
 use Rattle.table.specs.declared.records.UnitFigures.{UnitFigures}

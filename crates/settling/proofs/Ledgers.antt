@@ -1,7 +1,7 @@
 -- The ledger of a table that stands for a history is the one that the history gives.
+use Rattle.table.specs.Places.{unit_at, plant_at}
 use Rattle.std.proofs.Common.{◌≡◌, ℕ, ◌+◌, ◌-◌, ◌<◌, ◌≤◌, min, List, take, Option, sym, refl, ap, ◌∙◌, arith}
 use Rattle.table.proofs.Accepted.{units_placed}
-use Rattle.table.specs.Closing.{unit_at, plant_at}
 use Rattle.table.specs.ClosingLaw.{ClosingLaw}
 use Rattle.table.specs.History.{plants_in, loss_in, units_in, unit_in, Proper, UnitsStand, PlantsStand, Stands}
 use Rattle.table.specs.Metered.{Metered, last_competitive, last_guaranteed}

@@ -1,13 +1,13 @@
 -- Settling the units and then the rest settles the table.
+use Rattle.table.specs.Places.{unit_at, plant_at, buyer_at}
 use Rattle.std.proofs.Common.{◌≡◌, ℕ, ◌+◌, ◌*◌, min, ℤ, pos, ◌-ℤ◌, Some, None, Option, sym, refl, ap, ◌∙◌, subst}
 use Rattle.allocation.specs.Groups.{sum_of}
-use Rattle.table.specs.Closing.{unit_at, plant_at}
 use Rattle.table.specs.Rows.{UnitTable}
 use Rattle.table.specs.declared.records.Plant.{Plant}
 use Rattle.table.specs.declared.records.Table.{Table}
 use Rattle.settling.specs.Figures.{Pay, sum_units, of_plant, billed_unit, active_unit, opportunity_unit, penalty_unit, hour_money, hour_over, volumes, bought_by}
 use Rattle.settling.specs.Ledger.{UnitCase, Ledger, ledger_of}
-use Rattle.settling.specs.Settled.{GroupSettled, Settled, with_rows, settled_plant, settled_buyer, buyer_at}
+use Rattle.settling.specs.Settled.{GroupSettled, Settled, with_rows, settled_plant, settled_buyer}
 use Rattle.settling.specs.Stages.{both_totals, money_of, figures_by, buyer_figures_by, weights_of, hour_by, sold_of, RestSettled}
 use Rattle.settling.specs.Totals.{counted_totals, no_totals}
 use Rattle.settling.specs.declared.header.Header.{Header}

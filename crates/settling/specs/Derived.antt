@@ -1,7 +1,7 @@
 -- The ledger of an hour by its accepted calls alone, and what holds of its net purchases. The amounts of units and the
 -- run support of plants are what closing found.
+use Rattle.table.specs.Places.{unit_at, plant_at}
 use Rattle.std.specs.Prelude.{◌≡◌, ℕ, zero, suc, ◌+◌, ◌-◌, cond, List, ℤ, pos, ◌+ℤ◌, ◌-ℤ◌, Option, ◌==◌}
-use Rattle.table.specs.Closing.{unit_at, plant_at}
 use Rattle.table.specs.History.{plants_in, loss_in, sold_in, units_in, unit_in, buyers_in, buyer_loss_in, commitments_of}
 use Rattle.table.specs.Metered.{last_competitive, last_guaranteed, last_use}
 use Rattle.table.specs.declared.entries.Entry.{Entry}

@@ -1,9 +1,9 @@
 -- What settling looks at. A table gives a ledger, and so does the history of an hour's accepted calls.
-use Rattle.std.specs.Prelude.{ℕ, ◌-◌, min, cond, List, get_or, take, Some, None, Option, ◌==◌, slice_index_or}
+use Rattle.table.specs.Places.{unit_at, plant_at, buyer_at}
+use Rattle.std.specs.Prelude.{ℕ, ◌-◌, min, cond, List, get_or, take, Some, None, Option, ◌==◌}
 use Rattle.settlement.specs.declared.readings.CompetitiveEnergies.{CompetitiveEnergies}
 use Rattle.settlement.specs.declared.readings.Control.{Control}
-use Rattle.table.specs.Closing.{unit_at, plant_at}
-use Rattle.table.specs.Rows.{UnitTable, new_plant, new_buyer}
+use Rattle.table.specs.Rows.{UnitTable, new_plant}
 use Rattle.table.specs.declared.records.Adjustments.{Adjustments}
 use Rattle.table.specs.declared.records.Buyer.{Buyer}
 use Rattle.table.specs.declared.records.Commitment.{Commitment}
@@ -95,6 +95,6 @@ ledger_of t = record {
   units = λ g. min (table_of g t).count 128;
   unit = λ g i. case_at t.plants.rows (table_of g t) i;
   buyers = min t.buyers.count 64;
-  buyer = λ i. buyer_case (slice_index_or t.buyers.rows i (new_buyer 0));
+  buyer = λ i. buyer_case (buyer_at t i);
   commitments = take (min t.commitments.count 768) t.commitments.rows;
 }

@@ -1,7 +1,8 @@
 -- What settling leaves in the table.
-use Rattle.std.specs.Prelude.{◌≡◌, ℕ, ◌<◌, ◌≤◌, min, List, slice_index_or}
-use Rattle.table.specs.Closing.{unit_at, plant_at, SameUnits}
-use Rattle.table.specs.Rows.{UnitTable, new_buyer}
+use Rattle.table.specs.Places.{unit_at, plant_at, buyer_at}
+use Rattle.std.specs.Prelude.{◌≡◌, ℕ, ◌<◌, ◌≤◌, min, List}
+use Rattle.table.specs.Closing.{SameUnits}
+use Rattle.table.specs.Rows.{UnitTable}
 use Rattle.table.specs.declared.records.Buyer.{Buyer}
 use Rattle.table.specs.declared.records.BuyerFigures.{BuyerFigures}
 use Rattle.table.specs.declared.records.HourFigures.{HourFigures}
@@ -48,9 +49,6 @@ settled_plant figures p = record { loss = p.loss; figures = figures }
 
 abbrev pub settled_buyer : BuyerFigures → Buyer → Buyer
 settled_buyer figures b = record { loss = b.loss; used = b.used; figures = figures }
-
-abbrev pub buyer_at : Table → ℕ → Buyer
-buyer_at t i = slice_index_or t.buyers.rows i (new_buyer 0)
 
 -- A group's units have their figures. Those that are not entered, and what was entered and read, are as they were.
 pub record GroupSettled (pay : ℕ → UnitCase → ℕ) (plants : List Plant) (before after : UnitTable) : Type 0 where

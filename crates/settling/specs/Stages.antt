@@ -1,10 +1,10 @@
 -- The figures of plants and buyers by what stands in the records when they are written.
+use Rattle.table.specs.Places.{unit_at, plant_at, buyer_at}
 use Rattle.std.specs.Prelude.{◌≡◌, ℕ, ◌+◌, ◌-◌, ◌*◌, ◌<◌, ◌≤◌, min, cond, List, take, ℤ, pos, ◌-ℤ◌, Some, None, Option, ◌==◌, slice_index_or}
 use Rattle.std.specs.Option.{unwrap_or}
 use Rattle.allocation.specs.Groups.{sum_of}
 use Rattle.settlement.specs.Shares.{running_share, weight_of}
 use Rattle.settlement.specs.Support.{day_support, rate_of, support_cost}
-use Rattle.table.specs.Closing.{unit_at, plant_at}
 use Rattle.table.specs.Rows.{UnitTable, new_buyer}
 use Rattle.table.specs.declared.records.Buyer.{Buyer}
 use Rattle.table.specs.declared.records.BuyerFigures.{BuyerFigures}
@@ -14,7 +14,7 @@ use Rattle.table.specs.declared.records.Plant.{Plant}
 use Rattle.table.specs.declared.records.PlantFigures.{PlantFigures}
 use Rattle.table.specs.declared.records.Table.{Table}
 use Rattle.settling.specs.Figures.{volumes, bought_by}
-use Rattle.settling.specs.Settled.{with_rows, settled_plant, settled_buyer, buyer_at}
+use Rattle.settling.specs.Settled.{with_rows, settled_plant, settled_buyer}
 use Rattle.settling.specs.Totals.{PaymentFits, plus_totals, sum_totals}
 use Rattle.settling.specs.declared.header.Header.{Header}
 use Rattle.settling.specs.declared.totals.Totals.{Totals}

@@ -1,10 +1,10 @@
 -- An empty table stands for no entries and no readings.
+use Rattle.table.specs.Places.{unit_at}
 use Rattle.std.proofs.Common.{◌≡◌, ℕ, zero, suc, ◌<◌, [], None, replicate, refl, ap, ◌∙◌, ⊎_elim, arith}
 use Rattle.std.proofs.lemmas.List.{get_or-replicate, get_or_past, length-replicate}
 use Rattle.std.proofs.lemmas.Bool.{cases_lt}
 use Rattle.table.proofs.Sold.{sold_of}
 use Rattle.table.specs.Entries.{sold_at}
-use Rattle.table.specs.Closing.{unit_at}
 use Rattle.table.specs.History.{UnitsStand, Stands, empty_units, empty_table}
 use Rattle.table.specs.Metered.{Metered}
 use Rattle.table.specs.Rows.{new_unit, new_plant, new_buyer}

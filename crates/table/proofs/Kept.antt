@@ -1,11 +1,12 @@
 -- What closing, readings and entries leave as it was.
+use Rattle.table.specs.Places.{unit_at}
 use Rattle.std.proofs.Common.{◌≡◌, ℕ, ◌+◌, ◌-◌, ◌<◌, ◌≤◌, true, false, cond, ◌&&◌, eqb, ltb, List, [], length, get_or, set, Some, None, Option, sym, refl, ap, ◌∙◌, subst, ⊎_elim, arith}
 use mathlib.Core.Path.{fun_ext}
 use Rattle.std.proofs.lemmas.List.{get_or-set_same, get_or-set_other, get_or_past, length-set}
 use Rattle.std.proofs.lemmas.Bool.{cases_eq, cases_lt, cond_both}
 use Rattle.allocation.specs.Groups.{Group, total}
 use Rattle.allocation.specs.Laws.{Split}
-use Rattle.table.specs.Closing.{unit_at, terms_of, SameUnits, Closed}
+use Rattle.table.specs.Closing.{terms_of, SameUnits, Closed}
 use Rattle.table.specs.ClosingLaw.{group_in, share_one_in, share_two_in, amount_in, PlantLaw, ClosingLaw}
 use Rattle.table.specs.Effects.{unless, in_group, applied, after_entry, with_competitive, with_guaranteed}
 use Rattle.table.specs.Entries.{rows, view_of}

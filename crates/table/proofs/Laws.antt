@@ -1,4 +1,5 @@
 -- The law of a closed hour follows from what closing does and the history that the table stood for.
+use Rattle.table.specs.Places.{unit_at, plant_at}
 use Rattle.std.proofs.Common.{◌≡◌, ℕ, ◌+◌, ◌-◌, ◌<◌, ◌≤◌, min, cond, not, eqb, ltb, List, length, sym, ap, ◌∙◌, subst, ⊎_elim, arith}
 use mathlib.Core.Path.{fun_ext}
 use Rattle.std.proofs.lemmas.Bool.{cases_eq, cases_lt, eq-eqb, ne_eqb, lt-ltb, le-ltb, cond-true, cond-false, cond_both, and_from, and_left, and_right}
@@ -10,7 +11,7 @@ use Rattle.settlement.specs.Shares.{group_one_share, running_share}
 use Rattle.settlement.proofs.Running.{share_le}
 use Rattle.table.proofs.Accepted.{sold_bound}
 use Rattle.table.proofs.Views.{stands_in_sum}
-use Rattle.table.specs.Closing.{limit_in, declared_in, unit_at, plant_at, plant_group, declared_by, committed_by, share_one, share_two, Allotted, Closed}
+use Rattle.table.specs.Closing.{limit_in, declared_in, plant_group, declared_by, committed_by, share_one, share_two, Allotted, Closed}
 use Rattle.table.specs.ClosingLaw.{group_in, declared_total, committed_in, share_one_of, share_two_of, amount_in, ClosingLawOf, ClosingLaw}
 use Rattle.table.specs.History.{units_in, unit_in, loss_in, sold_in, UnitsStand, Stands, StandsInSum, Proper}
 use Rattle.table.specs.Rows.{UnitTable, closed_figures}

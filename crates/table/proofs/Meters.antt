@@ -1,9 +1,9 @@
 -- After any reading the table holds the last accepted ones.
+use Rattle.table.specs.Places.{unit_at}
 use Rattle.std.proofs.Common.{◌≡◌, ℕ, ◌+◌, ◌-◌, ◌<◌, ◌≤◌, min, cond, eqb, List, ◌∷◌, length, get_or, set, Some, None, Option, sym, refl, ap, ◌∙◌, subst, ⊎_elim, arith}
 use Rattle.std.proofs.lemmas.List.{get_or-set_same, get_or-set_other, length-set}
 use Rattle.std.proofs.lemmas.Bool.{cases_eq, eq-eqb, ne_eqb, cond-true, cond-false}
 use Rattle.table.proofs.Standing.{no_row, there}
-use Rattle.table.specs.Closing.{unit_at}
 use Rattle.table.specs.Effects.{unless}
 use Rattle.table.specs.Entries.{view_of}
 use Rattle.table.specs.Metered.{last_competitive, last_guaranteed, last_use, next_readings, Metered}

@@ -1,10 +1,11 @@
 -- A table goes on standing for the history of its accepted entries.
+use Rattle.table.specs.Places.{unit_at}
 use Rattle.std.proofs.Common.{◌≡◌, ℕ, zero, suc, ◌+◌, ◌-◌, ◌<◌, ◌≤◌, min, Bool, true, false, cond, ◌&&◌, ◌||◌, eqb, ltb, leb, List, [], ◌∷◌, ◌++◌, length, get_or, set, Some, None, Option, sym, refl, ap, ◌∙◌, subst, ◌⊎◌, ⊎_elim, arith, length-append}
 use Rattle.std.proofs.lemmas.List.{get_or-set_same, get_or-set_other, length-set, take_more_set}
 use Rattle.std.proofs.lemmas.Bool.{cases_eq, eq-eqb, ne_eqb, cond-true, cond-false, leb-false, ltb-false, eqb-false, or_parts, true≢false}
 use Rattle.table.proofs.Sold.{sold_push, sold_of}
 use Rattle.table.proofs.Views.{rows_same}
-use Rattle.table.specs.Closing.{unit_at, terms_of}
+use Rattle.table.specs.Closing.{terms_of}
 use Rattle.table.specs.Effects.{in_group, applied, after_entry, unless}
 use Rattle.table.specs.Entries.{lacks, lacks_unit, rows, view_of, sold_by, sold_at}
 use Rattle.table.specs.History.{adds_plant, adds_unit, adds_buyer, plants_in, units_in, buyers_in, commitments_of, loss_in, buyer_loss_in, unit_in, UnitsStand, PlantsStand, BuyersStand, CommitmentsStand, SoldStands, sold_in, Stands, view_in, next_history}

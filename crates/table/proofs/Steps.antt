@@ -1,4 +1,5 @@
 -- Closing one plant after another.
+use Rattle.table.specs.Places.{unit_at, plant_at}
 use Rattle.std.proofs.Common.{◌≡◌, ℕ, zero, suc, ◌+◌, ◌-◌, ◌<◌, ◌≤◌, min, cond, eqb, ltb, List, length, get_or, take, set, None, sum_by, sym, refl, ap, ◌∙◌, subst, ⊎_elim, add-one, arith}
 use mathlib.Core.Path.{fun_ext}
 use Rattle.std.proofs.lemmas.Bool.{cases_eq, cases_lt, eq-eqb, ne_eqb, cond-true, cond-false, cond_both}
@@ -8,7 +9,7 @@ use Rattle.allocation.specs.Groups.{Group, price_at, sum_of}
 use Rattle.allocation.specs.Laws.{Split}
 use Rattle.allocation.proofs.Sums.{sum_cong}
 use Rattle.curves.specs.Limits.{read_energy}
-use Rattle.table.specs.Closing.{counts, limit_in, declared_in, with_amount, allocated_to, unit_at, plant_group, GroupClosed, terms_of, SameUnits, SamePaid, OthersKept, Allotted, declared_by, committed_by, share_one, share_two, closed_plant, plant_at, PlantClosed, PlantResult, ClosedTo}
+use Rattle.table.specs.Closing.{counts, limit_in, declared_in, with_amount, allocated_to, plant_group, GroupClosed, terms_of, SameUnits, SamePaid, OthersKept, Allotted, declared_by, committed_by, share_one, share_two, closed_plant, PlantClosed, PlantResult, ClosedTo}
 use Rattle.settlement.specs.Shares.{group_one_share}
 use Rattle.table.specs.Effects.{with_plants, with_competitive, with_guaranteed}
 use Rattle.table.specs.Rows.{UnitTable, new_unit, new_plant}

@@ -1,5 +1,6 @@
 -- Closing: the limits and declared energies of a plant's group, and what its units are allocated.
-use Rattle.std.specs.Prelude.{◌≡◌, ℕ, ◌+◌, ◌-◌, ◌<◌, ◌≤◌, min, Bool, cond, not, ◌&&◌, List, length, None, ◌==◌, nat_lt, slice_index_or, slice_set}
+use Rattle.table.specs.Places.{unit_at, plant_at}
+use Rattle.std.specs.Prelude.{◌≡◌, ℕ, ◌+◌, ◌-◌, ◌<◌, ◌≤◌, min, Bool, cond, not, ◌&&◌, List, length, None, ◌==◌, nat_lt, slice_set}
 use Rattle.std.specs.Option.{unwrap_or}
 use Rattle.allocation.specs.Groups.{Group, price_at, sum_of}
 use Rattle.allocation.specs.Laws.{Split}
@@ -8,7 +9,7 @@ use Rattle.settlement.specs.Reference.{net_of}
 use Rattle.settlement.specs.Shares.{group_one_share}
 use Rattle.table.specs.Effects.{with_plants, with_competitive, with_guaranteed}
 use Rattle.table.specs.Entries.{view_of}
-use Rattle.table.specs.Rows.{UnitTable, new_unit, new_plant, closed_figures, no_unit_figures}
+use Rattle.table.specs.Rows.{UnitTable, closed_figures, no_unit_figures}
 use Rattle.table.specs.declared.records.Plant.{Plant}
 use Rattle.table.specs.declared.records.Table.{Table}
 use Rattle.table.specs.declared.records.UnitRecord.{UnitRecord}
@@ -46,10 +47,6 @@ with_amount amount u =
 -- a unit of the plant gets its amount, and any other stays as it is
 abbrev pub allocated_to : ℕ → ℕ → UnitRecord → UnitRecord
 allocated_to plant amount u = cond (u.plant == plant) (with_amount amount u) u
-
--- the unit at a place of a group's table
-abbrev pub unit_at : UnitTable → ℕ → UnitRecord
-unit_at t i = slice_index_or t.rows i (new_unit 0 0 None 0 0)
 
 -- the limit of the unit at a place in a plant's group; 0 past the units that are entered
 abbrev pub limit_at : ℕ → ℕ → UnitTable → ℕ → ℕ
@@ -92,9 +89,6 @@ share_two plant rows1 rows2 t = committed_by plant t - share_one plant rows1 row
 abbrev pub closed_plant : ℕ → ℕ → Plant → Plant
 closed_plant committed run p =
     record { loss = p.loss; figures = closed_figures committed run }
-
-abbrev pub plant_at : Table → ℕ → Plant
-plant_at t place = slice_index_or t.plants.rows place (new_plant 0)
 
 -- Both groups of the plant at a place are closed, and its figures are written; nothing else changes.
 pub record PlantClosed {O P : Type 0} (prices1 : O → ℕ → ℕ) (offers1 : List O) (prices2 : P → ℕ → ℕ) (offers2 : List P) (place : ℕ) (before after : Table) : Type 0 where

@@ -1,11 +1,12 @@
 -- What holds of a closed hour, by the history of its accepted entries and the offer rows given at closing. Amounts and
 -- support are the table's own figures; limits, shares and commitments are derived from the history alone.
+use Rattle.table.specs.Places.{unit_at, plant_at}
 use Rattle.std.specs.Prelude.{◌≡◌, ℕ, ◌+◌, ◌-◌, ◌<◌, min, cond, ◌&&◌, List, length, ◌==◌, nat_lt}
 use Rattle.allocation.specs.Groups.{Group, price_at, sum_of, total}
 use Rattle.allocation.specs.Laws.{Split}
 use Rattle.curves.specs.Limits.{read_energy}
 use Rattle.settlement.specs.Shares.{group_one_share}
-use Rattle.table.specs.Closing.{limit_in, declared_in, unit_at, plant_at}
+use Rattle.table.specs.Closing.{limit_in, declared_in}
 use Rattle.table.specs.History.{units_in, unit_in, loss_in, sold_in, plants_in}
 use Rattle.table.specs.Rows.{UnitTable}
 use Rattle.table.specs.declared.entries.Entry.{Entry}

@@ -1,6 +1,7 @@
 -- What the accepted entries of an hour say, by themselves. A history is the list of accepted entries, the newest first.
+use Rattle.table.specs.Places.{unit_at}
 use Rattle.std.specs.Prelude.{◌≡◌, ℕ, ◌+◌, ◌<◌, ◌≤◌, true, false, cond, ◌&&◌, List, [], ◌∷◌, ◌++◌, length, take, replicate, Some, None, Ok, Err, Result, ◌==◌, slice_index_or}
-use Rattle.table.specs.Closing.{unit_at, terms_of}
+use Rattle.table.specs.Closing.{terms_of}
 use Rattle.table.specs.Effects.{unless}
 use Rattle.table.specs.Entries.{View, view_of, rows, sold_by, sold_at}
 use Rattle.table.specs.Rows.{UnitTable, new_unit, new_plant, new_buyer, corrected, moved, no_hour_figures}

@@ -10,3 +10,4 @@ pub mod History
 pub mod Metered
 pub mod ClosingLaw
 pub mod Turns
+pub mod Places

@@ -1,10 +1,10 @@
 -- What the accepted readings of an hour say, by themselves: a list of them, the newest first.
-use Rattle.std.specs.Prelude.{◌≡◌, ℕ, ◌+◌, ◌<◌, cond, List, [], ◌∷◌, length, get_or, Some, None, Ok, Err, Option, Result, ◌==◌}
-use Rattle.table.specs.Closing.{unit_at}
+use Rattle.table.specs.Places.{unit_at, buyer_at}
+use Rattle.std.specs.Prelude.{◌≡◌, ℕ, ◌+◌, ◌<◌, cond, List, [], ◌∷◌, length, Some, None, Ok, Err, Option, Result, ◌==◌}
 use Rattle.table.specs.Effects.{unless}
 use Rattle.table.specs.Entries.{View}
 use Rattle.table.specs.Readings.{reading_rows, reading_number}
-use Rattle.table.specs.Rows.{new_buyer, kept_reading}
+use Rattle.table.specs.Rows.{kept_reading}
 use Rattle.table.specs.declared.readings.Reading.{Reading}
 use Rattle.table.specs.declared.readings.Reading.TheVariants.{Competitive, Guaranteed, Use}
 use Rattle.table.specs.declared.records.UnitReading.{UnitReading}
@@ -50,4 +50,4 @@ pub record Metered (rs : List Reading) (t : Table) : Type 0 where
   pub buyers_long : length t.buyers.rows ≡ 64
   pub competitive : (i : ℕ) → i < 128 → (unit_at t.competitive i).reading ≡ last_competitive (i + 1) rs
   pub guaranteed : (i : ℕ) → i < 128 → (unit_at t.guaranteed i).reading ≡ last_guaranteed (i + 1) rs
-  pub uses : (i : ℕ) → i < 64 → (get_or t.buyers.rows i (new_buyer 0)).used ≡ last_use (i + 1) rs
+  pub uses : (i : ℕ) → i < 64 → (buyer_at t i).used ≡ last_use (i + 1) rs

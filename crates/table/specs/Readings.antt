@@ -1,10 +1,11 @@
 -- Readings of a closed hour: which row of the table of refusals turns one down, what it answers and what it changes.
-use Rattle.std.specs.Prelude.{ℕ, ◌+◌, ◌-◌, max, Bool, cond, ◌||◌, List, Some, None, Ok, Err, Option, Result, nat_lt, slice_index_or, slice_set}
+use Rattle.table.specs.Places.{buyer_at}
+use Rattle.std.specs.Prelude.{ℕ, ◌+◌, ◌-◌, max, Bool, cond, ◌||◌, List, Some, None, Ok, Err, Option, Result, nat_lt, slice_set}
 use Rattle.settlement.specs.declared.readings.CompetitiveEnergies.{CompetitiveEnergies}
 use Rattle.settlement.specs.declared.readings.Control.{Control}
 use Rattle.table.specs.Entries.{View, view_of, lacks}
 use Rattle.table.specs.Effects.{unless, after_calls, with_competitive, with_guaranteed, with_buyers}
-use Rattle.table.specs.Rows.{new_buyer, read_unit, kept_reading, read_use}
+use Rattle.table.specs.Rows.{read_unit, kept_reading, read_use}
 use Rattle.table.specs.declared.readings.Reading.{Reading}
 use Rattle.table.specs.declared.readings.Reading.TheVariants.{Competitive, Guaranteed, Use}
 use Rattle.table.specs.declared.records.Adjustments.{Adjustments}
@@ -60,7 +61,7 @@ abbrev pub applied_reading : Reading → Table → Table
 applied_reading (Competitive unit reading) t = with_competitive (read_unit reading unit t.competitive) t
 applied_reading (Guaranteed unit reading) t = with_guaranteed (read_unit (kept_reading reading) unit t.guaranteed) t
 applied_reading (Use buyer used) t =
-    with_buyers t.buyers.count (slice_set t.buyers.rows (buyer - 1) (read_use used (slice_index_or t.buyers.rows (buyer - 1) (new_buyer 0)))) t
+    with_buyers t.buyers.count (slice_set t.buyers.rows (buyer - 1) (read_use used (buyer_at t (buyer - 1)))) t
 
 abbrev pub reading_number : Reading → ℕ
 reading_number (Competitive unit reading) = unit

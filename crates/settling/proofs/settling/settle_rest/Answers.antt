@@ -1,10 +1,10 @@
+use Rattle.table.specs.Places.{plant_at, buyer_at}
 use Rattle.std.proofs.Common.{◌≡◌, ℕ, ◌+◌, min, cond, eqb, length, ℤ, pos, ◌-ℤ◌, Some, None, ap, ◌∙◌, arith}
 use Rattle.std.proofs.lemmas.List.{length-take}
-use Rattle.table.specs.Closing.{plant_at}
 use Rattle.table.specs.declared.records.HourFigures.{HourFigures}
 use Rattle.table.specs.declared.records.Table.{Table}
 use Rattle.settling.specs.Figures.{volumes, bought_by}
-use Rattle.settling.specs.Settled.{settled_plant, settled_buyer, buyer_at}
+use Rattle.settling.specs.Settled.{settled_plant, settled_buyer}
 use Rattle.settling.specs.Stages.{both_totals, money_of, figures_by, buyer_figures_by, weights_of, hour_by, sold_of}
 use Rattle.settling.specs.declared.header.Header.{Header}
 use Rattle.settling.specs.declared.totals.Totals.{Totals}

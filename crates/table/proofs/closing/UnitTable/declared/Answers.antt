@@ -1,7 +1,8 @@
+use Rattle.table.specs.Places.{unit_at}
 use Rattle.std.proofs.Common.{◌≡◌, ◌≤◌, min, take, None, sum_by, ap, ◌∙◌, arith}
 use Rattle.std.proofs.lemmas.List.{take-take}
 use Rattle.allocation.specs.Groups.{sum_of}
-use Rattle.table.specs.Closing.{declared_in, unit_at}
+use Rattle.table.specs.Closing.{declared_in}
 use Rattle.table.specs.Rows.{new_unit}
 use Rattle.table.proofs.Steps.{sum_take, blank_declares}
 use Rattle.table.proofs.closing.UnitTable.declared.Goals as goal
