@@ -46,10 +46,11 @@ count_rises price (suc n) p q le =
     (cases_lt p x)
 
 -- at a price that no kWh is over, all are counted
-pub count_all : (price : ℕ → ℕ) (n p : ℕ) → ((k : ℕ) → price k ≤ p) → count_of price n p ≡ n
+pub count_all : (price : ℕ → ℕ) (n p : ℕ) → ((k : ℕ) → 1 ≤ k → k ≤ n → price k ≤ p) → count_of price n p ≡ n
 unfolding count_of
 count_all price zero p each = refl
-count_all price (suc n) p each = omega (arith, count_all price n p each, one_cheap (price (suc n)) p (each (suc n)))
+count_all price (suc n) p each =
+    omega (arith, count_all price n p (λ k low high. each k low (omega arith)), one_cheap (price (suc n)) p (each (suc n) (omega arith) (omega arith)))
 
 -- less than p + 1 is at most p, and nothing is less than 0
 pub count_below : (price : ℕ → ℕ) (n p : ℕ) → count_of (λ k. suc (price k)) n (suc p) ≡ count_of price n p

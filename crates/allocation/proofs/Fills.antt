@@ -3,7 +3,7 @@ use Rattle.std.proofs.Common.{◌≡◌, ℕ, zero, suc, ◌+◌, ◌-◌, ◌<�
 use Rattle.std.proofs.lemmas.Bool.{cases_lt, cases_eq}
 use Rattle.allocation.specs.Groups.{Group, sum_of, total}
 use Rattle.allocation.specs.Merit.{Before, MeritOrder}
-use Rattle.allocation.specs.Supply.{up_to, below, Parted, Clearing, Filled}
+use Rattle.allocation.specs.Supply.{up_to, below, Parted, NoneOver, Clearing, Filled}
 use Rattle.allocation.proofs.Sums.{sum_none, sum_more, sum_cong, sum_le}
 use Rattle.allocation.proofs.Counts.{count_le, count_rises, count_all, count_below, count_none, cheaper_first}
 
@@ -93,8 +93,8 @@ in_order g n p before after a filled i k j m it jt low high above within =
         ⊎_elim (λ (lt : up_to g p j < m). absurd (omega (arith, pj.marginal.dear m lt within))) (λ le. le) (cases_lt (up_to g p j) m)
 
 -- a filled group at the clearing price is in merit order, and what is left is what the amounts leave uncovered
-pub filled_merit : (g : Group) (share p before after : ℕ) (a : ℕ → ℕ) → ((i k : ℕ) → g.price i k ≤ 10000000) → Clearing g g.units share p → before ≡ share - sum_of g.units (below g p) → Filled g g.units p before after a → MeritOrder g share a × (after ≡ share - total g a)
-filled_merit g share p before after a bounded clearing rest filled =
+pub filled_merit : (g : Group) (share p before after : ℕ) (a : ℕ → ℕ) → Clearing g g.units share p → before ≡ share - sum_of g.units (below g p) → Filled g g.units p before after a → MeritOrder g share a × (after ≡ share - total g a)
+filled_merit g share p before after a clearing rest filled =
     let n = g.units in
     let enough = supply_below g n share p clearing in
     let high : sum_of n a ≤ sum_of n g.limit = sum_le n a g.limit (λ i lt. omega (arith, filled.high i lt, count_le (g.price i) (g.limit i) p)) in
@@ -102,7 +102,7 @@ filled_merit g share p before after a bounded clearing rest filled =
     let all : (0 < after) → sum_of n a ≡ sum_of n g.limit = λ left.
     let full = sum_cong n a (up_to g p) (λ i lt. ⊎_elim (λ short. absurd (omega (arith, filled.short i lt short))) (λ ge. omega (arith, filled.high i lt)) (cases_lt (a i) (up_to g p i))) in
     ⊎_elim (λ (le : share ≤ sum_of n (up_to g p)). absurd (omega arith))
-    (λ (top : p ≡ 10000000). full ∙ sum_cong n (up_to g p) g.limit (λ i lt. count_all (g.price i) (g.limit i) p (λ k. omega (arith, bounded i k))))
+    (λ (top : NoneOver g n p). full ∙ sum_cong n (up_to g p) g.limit (λ i lt. count_all (g.price i) (g.limit i) p (top i lt)))
     clearing.enough in
     let covered : sum_of n a ≡ min share (sum_of n g.limit) =
     ⊎_elim (λ (left : 0 < after). omega (arith, all left)) (λ (none : after ≤ 0). omega arith) (cases_lt 0 after) in (

@@ -33,12 +33,6 @@ row_sum prices f (suc n) (o ∷ os) (x ∷ xs) =
       ap (λ c. sum_of c each) count,
     )
 
--- no price in a row of offers is over a bound that holds of each offer
-pub price_bounded : {O : Type 0} (prices : O → ℕ → ℕ) (top : ℕ) → ((o : O) (k : ℕ) → prices o k ≤ top) → (os : List O) (i k : ℕ) → price_at prices os i k ≤ top
-price_bounded prices top each [] i k = omega arith
-price_bounded prices top each (x ∷ xs) zero k = each x k
-price_bounded prices top each (x ∷ xs) (suc i) k = price_bounded prices top each xs i k
-
 -- a count by equal prices
 pub at_most_same : (f h : ℕ → ℕ) (e d p r : ℕ) → ((k : ℕ) → f k ≡ h k) → e ≡ d → AtMost h d p r → AtMost f e p r
 at_most_same f h e d p r same whole counted = record {

@@ -20,10 +20,13 @@ pub record Parted (g : Group) (p i : ℕ) : Type 0 where
   pub cheaper : AtMost (λ k. suc (g.price i k)) (g.limit i) p (below g p i)
   pub marginal : AtMost (g.price i) (g.limit i) p (up_to g p i)
 
--- p is the least price at which n units cover the share, or the highest price
+-- no kWh of n units within their limits is over p
+abbrev pub NoneOver : Group → ℕ → ℕ → Type 0
+NoneOver g n p = (i : ℕ) → i < n → (k : ℕ) → 1 ≤ k → k ≤ g.limit i → g.price i k ≤ p
+
+-- p is the least price at which n units cover the share, or if none is, a price that none of their kWh is over
 pub record Clearing (g : Group) (n share p : ℕ) : Type 0 where
-  pub top : p ≤ 10000000
-  pub enough : (share ≤ sum_of n (up_to g p)) ⊎ (p ≡ 10000000)
+  pub enough : (share ≤ sum_of n (up_to g p)) ⊎ NoneOver g n p
   pub least : (q : ℕ) → q < p → sum_of n (up_to g q) < share
 
 -- n units are filled at price p: each has its cheaper kWh and some of those at p, in the units' order, until nothing

@@ -2,10 +2,10 @@
 ghost use Rattle.std.specs.Prelude.{◌≡◌};
 ghost use Rattle.allocation.specs.Groups.{total};
 ghost use Rattle.allocation.specs.Units.{units_in};
-ghost use Rattle.allocation.specs.Supply.{up_to, below, Clearing};
+ghost use Rattle.allocation.specs.Supply.{up_to, below, NoneOver, Clearing};
 
 use crate::group::Units;
-use curves::{MAX_PRICE, Offer};
+use curves::Offer;
 
 impl<'a, O: Offer> Units<'a, O> {
     // The units' kWh that cost at most `price`.
@@ -31,13 +31,25 @@ impl<'a, O: Offer> Units<'a, O> {
         self.supply_up_to(under)
     }
 
-    // The least price at which the units cover the share, or the highest price if none does.
+    // The price of the dearest kWh within the units' limits: no offer's price falls, so it is a unit's last.
+    fn dearest(&self) -> u32
+        ensures { let g = units_in O.Curve.prices self.now in NoneOver g g.units result }
+    {
+        let mut dearest = 0u32;
+        for place in self.places() {
+            let place = *place as usize;
+            dearest = dearest.max(self.offers[place].price(self.limits[place]));
+        }
+        dearest
+    }
+
+    // The least price at which the units cover the share, or the dearest kWh's if none does.
     pub(crate) fn marginal_price(&self, share: u32) -> u32
         ensures { let g = units_in O.Curve.prices self.now in Clearing g g.units share result }
     {
         // A search over prices: no slice holds them.
         let mut low = 0u32;
-        let mut high = MAX_PRICE;
+        let mut high = self.dearest();
         while low < high {
             let mid = low.midpoint(high);
             if share <= self.supply_up_to(mid) {

@@ -7,7 +7,6 @@ use Rattle.allocation.specs.Units.{BusyPlaces, part_of, place_in, units_in}
 use Rattle.allocation.proofs.Fills.{supply_below, filled_merit}
 use Rattle.allocation.proofs.Busy.{merit_busy}
 use Rattle.allocation.proofs.Orders.{split_of}
-use Rattle.allocation.proofs.Rows.{price_bounded}
 use Rattle.allocation.proofs.fill.split.Goals as goal
 
 pub overflow_sub-rest : goal.overflow_sub-rest
@@ -26,7 +25,7 @@ returns g c =
     let row = amount_at c.fill-2.new.amounts in
     let left = c.fill-2.result in
     let found = filled_merit (units_in prices units) share c.marginal_price-price.result _ left (λ i. row (place i))
-    (λ i k. price_bounded prices 10000000 g.met.O.Curve.bounded units.offers.now (place i) k) c.marginal_price-price.ensures
+    c.marginal_price-price.ensures
     (omega (arith, c.supply_below.ensures)) c.fill-2.ensures.filled in
     let cleared : (j : ℕ) → get_or c.fill.new.self j 0 ≡ 0 = λ j. ⊎_elim
     (λ (lt : j < length c.fill.new.self). search rules)

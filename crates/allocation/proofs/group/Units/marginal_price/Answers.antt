@@ -17,7 +17,6 @@ pub returns : goal.returns
 returns g c =
     let same : c.loop-low.low ≡ c.loop-low.high = omega arith in
     record {
-      top = omega arith;
       enough = rw same c.loop-low.invariant.2;
       least = c.loop-low.invariant.3;
     }
