@@ -4,6 +4,8 @@
 mod comparisons;
 mod random;
 mod tallies;
+#[cfg(test)]
+mod tests;
 
 pub use comparisons::compare;
 pub use random::Random;

@@ -15,6 +15,6 @@ pub use modified_curve::Modified;
 pub use raised_curve::Raised;
 pub use refusals::CurveRefusal;
 pub use stepped::{Stepped, SteppedCost, SteppedOffer};
-pub use steps::{Step, StepTable};
+pub use steps::{MAX_STEPS, Step, StepTable};
 pub use tariff::Tariff;
 pub use traits::{Curve, Offer};

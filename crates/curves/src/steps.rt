@@ -8,8 +8,8 @@ ghost use Rattle.curves.specs.Steps.{step_price, read_from, price_read, steps_of
 use crate::limits::{MAX_KWH, MAX_PRICE, read_energy, read_kwh};
 use crate::refusals::CurveRefusal;
 
-// The most steps of a curve.
-pub(crate) const MAX_STEPS: usize = 10;
+/// The most steps of a curve.
+pub const MAX_STEPS: usize = 10;
 
 /// A width in kWh and the price of each of them.
 #[derive(Clone, Copy, Debug, Default, PartialEq, Eq)]

@@ -5,11 +5,8 @@ ghost use Rattle.hourfile.specs.Words.{words};
 ghost use Rattle.hourfile.specs.Calls.{step_at, steps_of};
 
 use crate::words::{Word, value_at};
-use curves::{CurveRefusal, Step, Stepped};
+use curves::{CurveRefusal, MAX_STEPS, Step, Stepped};
 use std::array;
-
-// The most steps of a list.
-const MOST_STEPS: usize = 10;
 
 // The step at a place of a list: its width and its price.
 fn step_at(values: &[Word], place: usize) -> Step
@@ -23,7 +20,7 @@ fn step_at(values: &[Word], place: usize) -> Step
 }
 
 // The first ten steps of a list.
-fn first_steps(values: &[Word]) -> [Step; MOST_STEPS]
+fn first_steps(values: &[Word]) -> [Step; MAX_STEPS]
     ensures { length values.now / 2 ≤ 10 → take (length values.now / 2) result ≡ steps_of (words values.now) }
 {
     array::from_fn(|place| step_at(values, place))
@@ -34,7 +31,7 @@ pub fn stepped<const RISES: bool>(values: &[Word]) -> Result<Stepped<RISES>, Cur
     ensures { result ≡ stepped_made RISES (steps_of (words values.now)) }
 {
     let count = values.len() / 2;
-    if count > MOST_STEPS {
+    if count > MAX_STEPS {
         return Err(CurveRefusal::Steps);
     }
     Stepped::new(&first_steps(values)[..count])

@@ -14,11 +14,12 @@ ghost use Rattle.reader.specs.Progress.{header_of};
 ghost use Rattle.reader.specs.Reached.{entry_end, entry_after, reading_end, reading_after};
 ghost use Rattle.reader.specs.Rows.{rows_of, offers_of};
 
-use crate::kept::{UNITS, UnitRows};
+use crate::kept::UnitRows;
 use crate::units::unit_row;
 use book::{BookRefusal, ClosedHour, Header, OpenHour, SettledHour};
 use curves::Tariff;
 use hourfile::{Cause, FileFault, Record, Word, value_at};
+use table::UNITS;
 
 /// The header of a record's values.
 pub(crate) fn header_of(values: &[Word]) -> Result<Header, BookRefusal>

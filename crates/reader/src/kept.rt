@@ -3,9 +3,7 @@ ghost use Rattle.std.specs.Prelude.{◌≡◌, ◌≤◌, length};
 
 use book::PriceRow;
 use curves::{SteppedCost, SteppedOffer};
-
-/// How many competitive units an hour has room for.
-pub(crate) const UNITS: usize = 128;
+use table::UNITS;
 
 /// The offer and the cost curve of a competitive unit.
 pub type UnitRow = PriceRow<SteppedOffer, SteppedCost>;

@@ -2,13 +2,14 @@
 ghost use Rattle.std.specs.Prelude.{◌≡◌, ◌≤◌, ◌<◌, ◌++◌, ◌∷◌, ◌+◌, [], map, take};
 ghost use Rattle.reader.specs.Rows.{rows_of, offers_of};
 
-use crate::kept::{UNITS, UnitRow, UnitRows};
-use curves::{Step, StepTable, Stepped, SteppedOffer};
+use crate::kept::{UnitRow, UnitRows};
+use curves::{MAX_STEPS, Step, StepTable, Stepped, SteppedOffer};
 use std::array;
+use table::UNITS;
 
 // A curve of no steps.
 fn blank<const RISES: bool>() -> Stepped<RISES> {
-    let steps = [Step::default(); 10];
+    let steps = [Step::default(); MAX_STEPS];
     Stepped {
         table: StepTable { count: 0, steps },
     }
