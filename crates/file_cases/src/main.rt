@@ -39,7 +39,11 @@ fn fills_buffer(heap: Global, file: &[u8], want: &[u8]) -> Result<bool, AllocErr
     let mut book = Book::new();
     let mut out = vec![in heap; UNUSED; want.len() + 1]?;
     let listed = list_hour(heap, &mut book, file, out.as_mut_slice());
-    Ok(listed.end == Ok(want.len()) && out.as_slice().starts_with(want) && out.last() == Some(&UNUSED))
+    Ok(
+        listed.end == Ok(want.len())
+            && out.as_slice().starts_with(want)
+            && out.last() == Some(&UNUSED),
+    )
 }
 
 // Whether the text stored for a case is what is printed for its file. A listing is also tried with a buffer that has room
