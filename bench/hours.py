@@ -22,6 +22,9 @@ SEED = 1
 # that a unit's energy may be.
 ENERGY, WIDE_ENERGY = 60, 2_000_000
 
+# Prices of the dear hour are multiples of this; the highest price is ten times as much.
+DEAR = 1_000_000
+
 # What grows, and its sizes. The rest is as in the largest hour.
 GROWTH = {
     "units": (16, 32, 64, 128),
@@ -34,18 +37,20 @@ GROWTH = {
 class Sized(Drawing):
     """Draws the records of an hour whose step lists all have `steps` steps and in which each unit and buyer is read."""
 
-    def __init__(self, random, plan, energy, steps):
+    def __init__(self, random, plan, energy, steps, price):
         super().__init__(random, plan, energy, every=True)
         self.steps = steps
+        self.price = price or self.price
 
     def step_count(self):
         return self.steps
 
 
-def sized_hour(plants=32, units=128, steps=10, buyers=64, commitments=768, energy=ENERGY, seed=SEED):
-    """The file of an hour with so many units in each group. As called without arguments it has the largest size."""
+def sized_hour(plants=32, units=128, steps=10, buyers=64, commitments=768, energy=ENERGY, price=None, seed=SEED):
+    """The file of an hour with so many units in each group. As called without arguments it has the largest size. Prices
+    are multiples of `price`, or of a number that is drawn."""
     plan = {PLANT: plants, COMPETITIVE: units, GUARANTEED: units, BUYER: buyers, COMMIT: commitments}
-    return write_file(Sized(Random(seed), plan, energy, steps).hour())
+    return write_file(Sized(Random(seed), plan, energy, steps, price).hour())
 
 
 def empty_hour():
@@ -54,9 +59,9 @@ def empty_hour():
 
 
 def hours():
-    """All files by name: the empty hour, the largest two, and those that show growth."""
+    """All files by name: the empty hour, the largest three, and those that show growth."""
     named = {"empty": empty_hour(), "largest": write_file(largest_hour(Random(SEED))),
-             "wide": sized_hour(energy=WIDE_ENERGY)}
+             "wide": sized_hour(energy=WIDE_ENERGY), "dear": sized_hour(price=DEAR)}
     for what, sizes in GROWTH.items():
         named |= {f"{what}-{size}": sized_hour(**{what: size}) for size in sizes}
     return named
