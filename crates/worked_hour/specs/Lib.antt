@@ -1,1 +1,5 @@
 pub mod Examples
+pub mod Hour
+pub mod Refused
+pub mod Values
+pub mod File

@@ -1,7 +1,15 @@
-// The worked examples, as a statement that is computed on the definitions.
+// The worked examples, as statements that are computed on the definitions.
 ghost use Rattle.worked_hour.specs.Examples.{WorkedExamples};
+ghost use Rattle.worked_hour.specs.File.{FileExamples};
+ghost use Rattle.worked_hour.specs.Hour.{FullerHour};
+ghost use Rattle.worked_hour.specs.Refused.{RefusalTable};
+ghost use Rattle.worked_hour.specs.Values.{SmallExamples};
 
 // Its promise is that every worked example holds of the definitions.
 pub(crate) fn worked_examples()
-    ensures { WorkedExamples }
+    ensures examples { WorkedExamples }
+    ensures hour { FullerHour }
+    ensures refusals { RefusalTable }
+    ensures small { SmallExamples }
+    ensures file { FileExamples }
 {}

@@ -1,5 +1,17 @@
-use Rattle.worked_hour.proofs.Computed.{worked_examples}
+use Rattle.worked_hour.proofs.Computed.{worked_examples, fuller_hour, refusal_table, small_examples, file_examples}
 use Rattle.worked_hour.proofs.examples.worked_examples.Goals as goal
 
-pub returns : goal.returns
-returns c = worked_examples
+pub returns-clause-examples : goal.returns-clause-examples
+returns-clause-examples c = worked_examples
+
+pub returns-clause-hour : goal.returns-clause-hour
+returns-clause-hour c = fuller_hour
+
+pub returns-clause-refusals : goal.returns-clause-refusals
+returns-clause-refusals c = refusal_table
+
+pub returns-clause-small : goal.returns-clause-small
+returns-clause-small c = small_examples
+
+pub returns-clause-file : goal.returns-clause-file
+returns-clause-file c = file_examples
