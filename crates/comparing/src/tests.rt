@@ -1,22 +1,17 @@
-// That what differs is counted, and that each comparison draws further numbers.
+// What differs is counted, and each round draws numbers of its own.
 use crate::comparisons::compare;
+use crate::random::Random;
+use std::alloc::{AllocError, Global};
 use std::test::Fail;
 
-// Of 0 and 1 the generator draws both, in an order that is the same in every run.
+// Of the first eight numbers from 1 on the second and the sixth are odd.
 #[test]
-fn what_differs_is_counted(rt: HostRuntime) -> Result<(), Fail> {
-    let tally = compare(rt.alloc(), 7, 100, |_heap, random| {
-        Ok::<bool, Fail>(random.below(2) == 0)
-    })?;
-    assert_eq!(rt; tally.compared, 100);
-    assert!(rt; tally.differ > 30, "{} differ", tally.differ);
-    assert!(rt; tally.differ < 70, "{} differ", tally.differ);
-    Ok(())
-}
-
-#[test]
-fn nothing_differs(rt: HostRuntime) -> Result<(), Fail> {
-    let tally = compare(rt.alloc(), 7, 100, |_heap, _random| Ok::<bool, Fail>(true))?;
-    assert_eq!(rt; tally.differ, 0);
+fn odd_numbers_differ(rt: HostRuntime) -> Result<(), Fail> {
+    let is_even = |_heap: Global, random: &mut Random| -> Result<bool, AllocError> {
+        Ok(random.below(2) == 0)
+    };
+    let tally = compare(rt.alloc(), 1, 8, is_even)?;
+    assert_eq!(rt; tally.compared, 8);
+    assert_eq!(rt; tally.differ, 2);
     Ok(())
 }

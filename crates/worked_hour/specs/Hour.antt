@@ -1,5 +1,5 @@
--- A fuller hour: two plants with losses, units of both groups, one put aside (twice), three corrected, one with no reading,
--- and two buyers. The amounts are those of the split, as the second calculation has them.
+-- A fuller hour: two plants with losses, units of both groups, one put aside (twice), three corrected, one with no
+-- reading, and two buyers. The amounts are those of the split, as the second calculation has them.
 use Rattle.std.specs.Prelude.{◌≡◌, ℕ, cond, List, [], ◌∷◌, length, map, slice_index, pos, Ok, Err, ◌==◌}
 use Rattle.curves.specs.Steps.{step_price}
 use Rattle.curves.specs.declared.steps.Step.{Step}
