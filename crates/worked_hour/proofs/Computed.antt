@@ -57,6 +57,7 @@ fuller_hour = record {
   unit_three = refl;
   guaranteed_one = refl;
   guaranteed_two = refl;
+  over = refl;
   plant_one = refl;
   plant_two = refl;
   buyer_one = refl;
@@ -94,6 +95,7 @@ refusal_table = record {
   priced = refl;
   offers = refl;
   costs = refl;
+  tariff = refl;
   rates = refl;
 }
 
@@ -114,6 +116,7 @@ small_examples = record {
   count_read = refl;
   ceiling = refl;
   ceiling_read = refl;
+  one_rate = refl;
   rate_read = refl;
   lifted = refl;
   as_given = refl;
@@ -169,5 +172,8 @@ file_examples = record {
   misplaced_line = refl;
   book_line = refl;
   steps_line = refl;
+  unit_questions = refl;
+  plant_questions = refl;
+  buyer_questions = refl;
   listing = refl;
 }

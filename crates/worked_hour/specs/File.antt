@@ -1,10 +1,10 @@
--- A file of the fuller hour, word by word; faults, their lines, and a listing.
-use Rattle.std.specs.Prelude.{◌≡◌, ℕ, ◌+◌, ◌-◌, ◌*◌, false, List, [], ◌∷◌, ◌++◌, length, replicate, take, codes, Option, Some, None, Ok, negsuc}
+-- A file of the fuller hour, word by word; faults and their lines; questions of a small table, and its listing.
+use Rattle.std.specs.Prelude.{◌≡◌, ℕ, ◌+◌, ◌-◌, ◌*◌, false, List, [], ◌∷◌, ◌++◌, length, replicate, take, codes, Option, Some, None, Ok, Err, negsuc}
 use Rattle.curves.specs.declared.refusals.CurveRefusal.TheVariants.{Steps as BadSteps, Price}
 use Rattle.curves.specs.declared.steps.Step.{Step}
 use Rattle.curves.specs.declared.steps.StepTable.{StepTable}
 use Rattle.table.specs.declared.records.Table.{Table}
-use Rattle.table.specs.declared.refusals.BookRefusal.TheVariants.{NoPlant, Limited}
+use Rattle.table.specs.declared.refusals.BookRefusal.TheVariants.{NoPlant, NoUnit, NoBuyer, Limited}
 use Rattle.hourfile.specs.Faults.{fault_text}
 use Rattle.hourfile.specs.Words.{word}
 use Rattle.hourfile.specs.declared.faults.Cause.{Cause}
@@ -14,6 +14,7 @@ use Rattle.reader.specs.Outcome.{Outcome, outcome, read_from}
 use Rattle.reader.specs.Progress.Progress.{Opened, Settled}
 use Rattle.listing.specs.Listing.{listing_of}
 use Rattle.book.specs.Law.{entered, metered}
+use Rattle.book.specs.Questions.{unit_answer, plant_answer, buyer_answer}
 use Rattle.worked_hour.specs.Examples.{step}
 use Rattle.worked_hour.specs.Hour.{header, entries, readings}
 
@@ -38,7 +39,7 @@ abbrev pub reading_words : List ℕ
 reading_words =
     head 6 3 ∷ 2 ∷ 1 ∷ 7 ∷ head 10 0
     ∷ head 11 18 ∷ 1 ∷ 1 ∷ 0 ∷ 0 ∷ 0 ∷ 0 ∷ 0 ∷ 0 ∷ 0 ∷ 0 ∷ 0 ∷ 0 ∷ 0 ∷ 0 ∷ 0 ∷ 0 ∷ 0 ∷ 0
-    ∷ head 11 18 ∷ 1 ∷ 120 ∷ 70 ∷ 20 ∷ 10 ∷ 130 ∷ 1 ∷ 20 ∷ 1 ∷ 2 ∷ 3 ∷ 4 ∷ 5 ∷ 2 ∷ 780 ∷ 5 ∷ 2 ∷ 1
+    ∷ head 11 18 ∷ 1 ∷ 120 ∷ 70 ∷ 20 ∷ 10 ∷ 115 ∷ 1 ∷ 20 ∷ 1 ∷ 2 ∷ 3 ∷ 4 ∷ 5 ∷ 2 ∷ 780 ∷ 5 ∷ 2 ∷ 1
     ∷ head 11 18 ∷ 2 ∷ 150 ∷ 60 ∷ 10 ∷ 65 ∷ 0 ∷ 0 ∷ 30 ∷ 0 ∷ 0 ∷ 0 ∷ 50 ∷ 0 ∷ 1 ∷ 0 ∷ 0 ∷ 0 ∷ 0
     ∷ head 12 10 ∷ 1 ∷ 66 ∷ 7 ∷ 0 ∷ 0 ∷ 9 ∷ 0 ∷ 0 ∷ 0 ∷ 0
     ∷ head 12 10 ∷ 2 ∷ 88 ∷ 9 ∷ 3 ∷ 0 ∷ 0 ∷ 0 ∷ 0 ∷ 0 ∷ 0
@@ -69,6 +70,7 @@ small = record {
   guaranteed = record { count = 1; rows = record { plant = 1; declared = 0; seasonal = Some 0; internal = 0; feeds = 0; aside = false; reading = None; figures = record { allocated = 1; billed = 2; payment = 3 } } ∷ [] };
   buyers = record { count = 1; rows = record { loss = 0; used = None; figures = record { share = 130; net = negsuc 79 } } ∷ [] };
   commitments = record { count = 0; rows = [] };
+  sold = [];
   figures = record { billed = 133; committed = 50; unassigned = 4 };
 }
 
@@ -113,4 +115,7 @@ pub record FileExamples : Type 0 where
   pub misplaced_line : line Misplaced ≡ codes "R F 16 100"
   pub book_line : line (Book Limited) ≡ codes "R B 11 100"
   pub steps_line : line (Steps Price) ≡ codes "R O 9 100"
+  pub unit_questions : unit_answer 1 1 small ∷ unit_answer 2 1 small ∷ unit_answer 1 2 small ∷ unit_answer 2 0 small ∷ unit_answer 3 1 small ∷ [] ≡ Ok (record { allocated = 40; billed = 131; payment = 28000 }) ∷ Ok (record { allocated = 1; billed = 2; payment = 3 }) ∷ Err NoUnit ∷ Err NoUnit ∷ Err NoUnit ∷ []
+  pub plant_questions : plant_answer 1 small ∷ plant_answer 0 small ∷ plant_answer 2 small ∷ [] ≡ Ok (record { committed = 50; allocated = 41; run = 11; support = 21; rate = 350; cost = 9000 }) ∷ Err NoPlant ∷ Err NoPlant ∷ []
+  pub buyer_questions : buyer_answer 1 small ∷ buyer_answer 0 small ∷ buyer_answer 2 small ∷ [] ≡ Ok (record { share = 130; net = negsuc 79 }) ∷ Err NoBuyer ∷ Err NoBuyer ∷ []
   pub listing : listing_of small ≡ codes "U C 1 40 131 28000\nU G 1 1 2 3\nP 1 50 41 11 21 350 9000\nB 1 130 -80\nH 133 50 4\n"

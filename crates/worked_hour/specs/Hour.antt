@@ -4,7 +4,7 @@ use Rattle.std.specs.Prelude.{◌≡◌, ℕ, cond, List, [], ◌∷◌, length,
 use Rattle.curves.specs.Steps.{step_price}
 use Rattle.curves.specs.declared.steps.Step.{Step}
 use Rattle.settling.specs.Derived.{Found, ledger_in}
-use Rattle.settling.specs.Figures.{Pay, pay_by, unit_figures, plant_figures, buyer_figures, hour_figures}
+use Rattle.settling.specs.Figures.{Pay, pay_by, unit_figures, plant_over, plant_figures, buyer_figures, hour_figures}
 use Rattle.settling.specs.Ledger.{Ledger}
 use Rattle.settling.specs.declared.header.Header.{Header}
 use Rattle.settling.specs.declared.rows.PriceRow.{PriceRow}
@@ -40,7 +40,7 @@ readings =
       control = record { p_act = 0; type2 = 0; type3 = 0; type5 = 0; type6 = 0; type8 = 0; day = 0; minute = 0 };
     })
     ∷ Competitive 1 (record {
-      energies = record { net = 120; accepted = 70; lost = 20; limited = 10; executed = 130; asked = 1 };
+      energies = record { net = 120; accepted = 70; lost = 20; limited = 10; executed = 115; asked = 1 };
       adjustments = record { opportunity = 5; planning = 2; cooperation = 1 };
       control = record { p_act = 20; type2 = 1; type3 = 2; type5 = 3; type6 = 4; type8 = 5; day = 2; minute = 780 };
     })
@@ -98,13 +98,15 @@ pub record FullerHour : Type 0 where
   pub shares_one : share_one_in 1 3 2 (entered entries) ∷ share_two_in 1 3 2 (entered entries) ∷ [] ≡ 76 ∷ 49 ∷ []
   pub shares_two : share_one_in 2 3 2 (entered entries) ∷ share_two_in 2 3 2 (entered entries) ∷ [] ≡ 82 ∷ 75 ∷ []
   pub fewer_rows : share_one_in 2 1 2 (entered entries) ≡ 0
-  pub unit_one : unit_figures (pay 1 0 (book.unit 1 0)) (book.unit 1 0) ≡ record { allocated = 76; billed = 117; payment = 14339 }
+  pub unit_one : unit_figures (pay 1 0 (book.unit 1 0)) (book.unit 1 0) ≡ record { allocated = 76; billed = 117; payment = 15771 }
   pub unit_two : unit_figures (pay 1 1 (book.unit 1 1)) (book.unit 1 1) ≡ record { allocated = 82; billed = 142; payment = 11736 }
   pub unit_three : unit_figures (pay 1 2 (book.unit 1 2)) (book.unit 1 2) ≡ record { allocated = 0; billed = 0; payment = 0 }
   pub guaranteed_one : unit_figures (pay 2 0 (book.unit 2 0)) (book.unit 2 0) ≡ record { allocated = 49; billed = 64; payment = 24400 }
   pub guaranteed_two : unit_figures (pay 2 1 (book.unit 2 1)) (book.unit 2 1) ≡ record { allocated = 38; billed = 83; payment = 20750 }
-  pub plant_one : plant_figures header pay book 0 ≡ record { committed = 125; allocated = 125; run = 0; support = 76; rate = 691; cost = 52516 }
-  pub plant_two : plant_figures header pay book 1 ≡ record { committed = 157; allocated = 120; run = 37; support = 118; rate = 590; cost = 76630 }
+  -- what it is billed over what it was allocated, and not over what it sold
+  pub over : plant_over book 1 ≡ pos 105
+  pub plant_one : plant_figures header pay book 0 ≡ record { committed = 125; allocated = 125; run = 0; support = 76; rate = 717; cost = 54492 }
+  pub plant_two : plant_figures header pay book 1 ≡ record { committed = 157; allocated = 120; run = 37; support = 118; rate = 602; cost = 78046 }
   pub buyer_one : buyer_figures book 0 ≡ record { share = 140; net = pos 88 }
   pub buyer_two : buyer_figures book 1 ≡ record { share = 266; net = pos 36 }
   pub hour : hour_figures book ≡ record { billed = 406; committed = 282; unassigned = 0 }

@@ -136,4 +136,5 @@ pub record RefusalTable : Type 0 where
   pub priced : priced_answer 1 0 0 no_row empty_table ≡ Err (Book NoPlant)
   pub offers : map offer_told ([] ∷ (step 1 10000000 ∷ nine) ∷ (step 0 1 ∷ []) ∷ (step 2000000 10000000 ∷ []) ∷ (step 2000001 1 ∷ []) ∷ (step 1 10000001 ∷ []) ∷ (step 1 2 ∷ step 1 2 ∷ []) ∷ (step 1 2 ∷ step 1 1 ∷ []) ∷ (step 1 10000001 ∷ step 0 1 ∷ []) ∷ (step 1 1 ∷ nine) ∷ (step 1 1 ∷ step 1 1 ∷ nine) ∷ []) ≡ 8 ∷ 8 ∷ 8 ∷ 0 ∷ 8 ∷ 9 ∷ 0 ∷ 8 ∷ 8 ∷ 0 ∷ 8 ∷ []
   pub costs : map cost_told ([] ∷ (step 1 10000000 ∷ nine) ∷ (step 0 1 ∷ []) ∷ (step 1 10000001 ∷ []) ∷ (step 1 10000001 ∷ step 0 1 ∷ []) ∷ (step 1 1 ∷ step 1 1 ∷ nine) ∷ []) ≡ 8 ∷ 0 ∷ 8 ∷ 9 ∷ 8 ∷ 8 ∷ []
+  pub tariff : tariff_made 6 ≡ Ok (record { rate = 6 })
   pub rates : curve_told (tariff_made 10000000) ∷ curve_told (tariff_made 10000001) ∷ [] ≡ 0 ∷ 9 ∷ []

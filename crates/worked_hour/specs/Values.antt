@@ -59,6 +59,7 @@ pub record SmallExamples : Type 0 where
   pub count_read : map read_count (0 ∷ 1 ∷ 10 ∷ 11 ∷ []) ≡ 1 ∷ 1 ∷ 10 ∷ 10 ∷ []
   pub ceiling : raised_price 400 (λ k. 350) 1 ≡ 400
   pub ceiling_read : raised_price 20000000 (λ k. 9000000) 1 ≡ 10000000
+  pub one_rate : tariff_price (record { rate = 5 }) 7 ≡ 5
   pub rate_read : tariff_price (record { rate = 10000001 }) 7 ≡ 10000000
   -- step lists: an offer's prices are lifted and a cost's are not; past all steps the last price goes on
   pub lifted : map (step_price (read_from true 0 falling)) (10 ∷ 11 ∷ 12 ∷ 2000000 ∷ []) ≡ 300 ∷ 300 ∷ 10000000 ∷ 10000000 ∷ []
