@@ -28,7 +28,7 @@ entries =
     AddPlant 200 ∷ AddPlant 500 ∷ AddBuyer 100 ∷ AddBuyer 1500
     ∷ AddCompetitive 1 80 300 ∷ AddCompetitive 2 60 400 ∷ AddCompetitive 1 99 0
     ∷ AddGuaranteed 1 45 70 200 1 ∷ AddGuaranteed 2 90 40 0 0
-    ∷ PutAside 1 3 ∷ Correct 1 2 100 ∷ Correct 1 3 98 ∷ Correct 2 1 50 ∷ PutAside 1 3 ∷ PutAside 2 2 ∷ TakeBack 2 2
+    ∷ PutAside 1 3 ∷ PutAside 1 3 ∷ Correct 1 2 100 ∷ Correct 1 3 98 ∷ Correct 2 1 50 ∷ PutAside 2 2 ∷ TakeBack 2 2
     ∷ Commit 1 1 45 ∷ Commit 2 2 150 ∷ Commit 1 2 80 ∷ Commit 3 1 5 ∷ Commit 2 1 7 ∷ []
 
 -- the second reading of unit 1 stands in place of the first
