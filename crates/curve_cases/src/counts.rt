@@ -25,14 +25,14 @@ pub(crate) fn compare_counts<O: Drawn + Offer>(
 
 // An offer, and the prices of its first 120 kWh by the second calculation.
 #[derive(Drop)]
-struct Priced<O> {
-    offer: O,
-    prices: Vec<u32>,
+pub(crate) struct Priced<O> {
+    pub offer: O,
+    pub prices: Vec<u32>,
 }
 
 impl<O: Offer> Priced<O> {
     // Whether the counts are the same for every tenth number of kWh up to 120.
-    fn same_counts(&self) -> bool {
+    pub(crate) fn same_counts(&self) -> bool {
         (0..13).map(|tens| tens * 10).all(|energy| {
             self.same_at_prices(energy)
                 && self.same_count(energy, 0)

@@ -6,6 +6,8 @@ mod compare;
 mod counts;
 mod draws;
 mod refusals;
+#[cfg(test)]
+mod tests;
 
 use compare::{KindTally, compare_kind};
 use comparing::{Finding, Tally};

@@ -1,5 +1,5 @@
 // The tariff: an offer with one rate.
-ghost use Rattle.std.specs.Prelude.{◌≡◌};
+ghost use Rattle.std.specs.Prelude.{◌≡◌, ℕ, IfOk};
 ghost use Rattle.curves.specs.Kinds.{tariff_price, tariff_bounded, tariff_rises};
 ghost use Rattle.curves.specs.Refusals.{tariff_made};
 
@@ -16,7 +16,8 @@ pub struct Tariff {
 impl Tariff {
     /// The tariff of a rate; a rate over the highest price is refused.
     pub fn new(rate: u32) -> Result<Tariff, CurveRefusal>
-        ensures { result ≡ tariff_made rate }
+        ensures answer { result ≡ tariff_made rate }
+        ensures meaning { IfOk result (λ t. (k : ℕ) → tariff_price t k ≡ rate) }
     {
         if rate > MAX_PRICE {
             return Err(CurveRefusal::Price);

@@ -1,6 +1,9 @@
 // Compares what hourlist prints with the stored cases: hour files, each with the text that a second calculation gives.
 #![tactic(auto)]
 
+#[cfg(test)]
+mod tests;
+
 use anyhow::{Context, Result, ensure};
 use book::Book;
 use comparing::Tally;

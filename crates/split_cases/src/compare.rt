@@ -39,7 +39,7 @@ fn same_curves(stepped: &[SteppedOffer], single: &[Single]) -> bool {
 }
 
 // Whether both cost the same up to each kWh, and count the same at each price of a kWh and just under it.
-fn same_curve(stepped: &SteppedOffer, single: &Single) -> bool {
+pub(crate) fn same_curve(stepped: &SteppedOffer, single: &Single) -> bool {
     (1..90).all(|kwh| {
         let price = stepped.price(kwh);
         stepped.cost(kwh) == single.cost(kwh)

@@ -7,6 +7,8 @@ mod compare;
 mod offers;
 mod outcomes;
 mod single;
+#[cfg(test)]
+mod tests;
 
 use compare::{compare_curves, compare_splits};
 use comparing::{Finding, Tally};

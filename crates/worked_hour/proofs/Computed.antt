@@ -1,5 +1,7 @@
 -- The worked examples, computed.
-use Rattle.std.proofs.Common.{refl}
+use Rattle.std.proofs.Common.{refl, ap, cond, ◌||◌, ◌%◌, not, eqb, ltb, Ok, Err}
+use Rattle.hourfile.specs.Reading.{file_words}
+use Rattle.hourfile.specs.declared.faults.Cause.TheVariants.{Length}
 use Rattle.std.specs.Fmt.{digits}
 use Rattle.allocation.proofs.TwoUnits.{worked_example}
 use Rattle.allocation.specs.Groups.{sum_of}
@@ -147,6 +149,8 @@ file_examples = record {
   file = refl;
   bytes = refl;
   odd_length = refl;
+  longest = λ file long. ap (λ n. cond (ltb 65536 n || not (eqb (n % 4) 0)) (Err (record { cause = Length; place = 0 })) (Ok (record { words = file_words file; place = 0 }))) long;
+  too_long = λ file long. ap (λ n. cond (ltb 65536 n || not (eqb (n % 4) 0)) (Err (record { cause = Length; place = 0 })) (Ok (record { words = file_words file; place = 0 }))) long;
   nothing = refl;
   cut = refl;
   cut_record = refl;
@@ -172,6 +176,7 @@ file_examples = record {
   misplaced_line = refl;
   book_line = refl;
   steps_line = refl;
+  listed = refl;
   unit_questions = refl;
   plant_questions = refl;
   buyer_questions = refl;

@@ -1,18 +1,20 @@
 -- A file of the fuller hour, word by word; faults and their lines; questions of a small table, and its listing.
-use Rattle.std.specs.Prelude.{◌≡◌, ℕ, ◌+◌, ◌-◌, ◌*◌, false, List, [], ◌∷◌, ◌++◌, length, replicate, take, codes, Option, Some, None, Ok, Err, negsuc}
+use Rattle.std.specs.Prelude.{◌≡◌, ℕ, ◌+◌, ◌-◌, ◌*◌, false, List, [], ◌∷◌, ◌++◌, length, map, replicate, take, codes, Option, Some, None, Ok, Err, negsuc}
 use Rattle.curves.specs.declared.refusals.CurveRefusal.TheVariants.{Steps as BadSteps, Price}
 use Rattle.curves.specs.declared.steps.Step.{Step}
 use Rattle.curves.specs.declared.steps.StepTable.{StepTable}
 use Rattle.table.specs.declared.records.Table.{Table}
 use Rattle.table.specs.declared.refusals.BookRefusal.TheVariants.{NoPlant, NoUnit, NoBuyer, Limited}
 use Rattle.hourfile.specs.Faults.{fault_text}
+use Rattle.hourfile.specs.Reading.{start, file_words}
 use Rattle.hourfile.specs.Words.{word}
 use Rattle.hourfile.specs.declared.faults.Cause.{Cause}
 use Rattle.hourfile.specs.declared.faults.Cause.TheVariants.{Ended, ShortBuffer, Length, Malformed, Misplaced, Book, Steps}
 use Rattle.hourfile.specs.declared.faults.FileFault.{FileFault}
 use Rattle.reader.specs.Outcome.{Outcome, outcome, read_from}
 use Rattle.reader.specs.Progress.Progress.{Opened, Settled}
-use Rattle.listing.specs.Listing.{listing_of}
+use Rattle.listing.specs.Listing.{listing_of, count_of}
+use Rattle.listing.specs.declared.rows.Kind.TheVariants.{Competitive as OfCompetitive, Guaranteed as OfGuaranteed, Plants as OfPlants, Buyers as OfBuyers}
 use Rattle.book.specs.Law.{entered, metered}
 use Rattle.book.specs.Questions.{unit_answer, plant_answer, buyer_answer}
 use Rattle.worked_hour.specs.Examples.{step}
@@ -74,6 +76,18 @@ small = record {
   figures = record { billed = 133; committed = 50; unassigned = 4 };
 }
 
+-- a table whose rows of each kind are all entered
+abbrev pub full : Table
+full = record {
+  plants = record { count = 32; rows = [] };
+  competitive = record { count = 128; rows = [] };
+  guaranteed = record { count = 128; rows = [] };
+  buyers = record { count = 64; rows = [] };
+  commitments = record { count = 768; rows = [] };
+  sold = [];
+  figures = record { billed = 0; committed = 0; unassigned = 0 };
+}
+
 pub record FileExamples : Type 0 where
   pub word_is : word (5 ∷ 1 ∷ 2 ∷ 16 ∷ []) ≡ 268566789
   pub file : read (entry_words ++ reading_words) ≡ record {
@@ -90,6 +104,9 @@ pub record FileExamples : Type 0 where
   }
   pub bytes : outcome (5 ∷ 0 ∷ 0 ∷ 16 ∷ 144 ∷ 1 ∷ 0 ∷ 0 ∷ 40 ∷ 35 ∷ 0 ∷ 0 ∷ 200 ∷ 0 ∷ 0 ∷ 0 ∷ 70 ∷ 0 ∷ 0 ∷ 0 ∷ 0 ∷ 0 ∷ 0 ∷ 0 ∷ []) ≡ record { progress = Opened (record { header = header; entries = []; rows = []; readings = [] }); fault = at 24 Ended }
   pub odd_length : (outcome (5 ∷ 0 ∷ 0 ∷ [])).fault ≡ at 0 Length
+  -- the longest file is read, and one with a word more is not
+  pub longest : (file : List ℕ) → length file ≡ 65536 → start file ≡ Ok (record { words = file_words file; place = 0 })
+  pub too_long : (file : List ℕ) → length file ≡ 65540 → start file ≡ Err (record { cause = Length; place = 0 })
   pub nothing : fault_of [] ≡ at 0 Ended
   pub cut : fault_of (take 6 entry_words) ≡ at 24 Ended
   pub cut_record : fault_of (take 7 entry_words) ≡ at 24 Malformed
@@ -115,6 +132,8 @@ pub record FileExamples : Type 0 where
   pub misplaced_line : line Misplaced ≡ codes "R F 16 100"
   pub book_line : line (Book Limited) ≡ codes "R B 11 100"
   pub steps_line : line (Steps Price) ≡ codes "R O 9 100"
+  -- each row of a full table has its line
+  pub listed : map (λ kind. count_of kind full) (OfCompetitive ∷ OfGuaranteed ∷ OfPlants ∷ OfBuyers ∷ []) ≡ 128 ∷ 128 ∷ 32 ∷ 64 ∷ []
   pub unit_questions : unit_answer 1 1 small ∷ unit_answer 2 1 small ∷ unit_answer 1 2 small ∷ unit_answer 2 0 small ∷ unit_answer 3 1 small ∷ [] ≡ Ok (record { allocated = 40; billed = 131; payment = 28000 }) ∷ Ok (record { allocated = 1; billed = 2; payment = 3 }) ∷ Err NoUnit ∷ Err NoUnit ∷ Err NoUnit ∷ []
   pub plant_questions : plant_answer 1 small ∷ plant_answer 0 small ∷ plant_answer 2 small ∷ [] ≡ Ok (record { committed = 50; allocated = 41; run = 11; support = 21; rate = 350; cost = 9000 }) ∷ Err NoPlant ∷ Err NoPlant ∷ []
   pub buyer_questions : buyer_answer 1 small ∷ buyer_answer 0 small ∷ buyer_answer 2 small ∷ [] ≡ Ok (record { share = 130; net = negsuc 79 }) ∷ Err NoBuyer ∷ Err NoBuyer ∷ []
