@@ -177,6 +177,7 @@ file_examples = record {
   book_line = refl;
   steps_line = refl;
   listed = refl;
+  shown = refl;
   unit_questions = refl;
   plant_questions = refl;
   buyer_questions = refl;

@@ -15,6 +15,7 @@ use Rattle.reader.specs.Outcome.{Outcome, outcome, read_from}
 use Rattle.reader.specs.Progress.Progress.{Opened, Settled}
 use Rattle.listing.specs.Listing.{listing_of, count_of}
 use Rattle.listing.specs.declared.rows.Kind.TheVariants.{Competitive as OfCompetitive, Guaranteed as OfGuaranteed, Plants as OfPlants, Buyers as OfBuyers}
+use Rattle.listing.specs.Printed.{fault_line}
 use Rattle.book.specs.Law.{entered, metered}
 use Rattle.book.specs.Questions.{unit_answer, plant_answer, buyer_answer}
 use Rattle.worked_hour.specs.Examples.{step}
@@ -134,6 +135,8 @@ pub record FileExamples : Type 0 where
   pub steps_line : line (Steps Price) ≡ codes "R O 9 100"
   -- each row of a full table has its line
   pub listed : map (λ kind. count_of kind full) (OfCompetitive ∷ OfGuaranteed ∷ OfPlants ∷ OfBuyers ∷ []) ≡ 128 ∷ 128 ∷ 32 ∷ 64 ∷ []
+  -- what is printed for a fault ends with a line feed
+  pub shown : fault_line (record { cause = Ended; place = 100 }) ≡ codes "R F 12 100\n"
   pub unit_questions : unit_answer 1 1 small ∷ unit_answer 2 1 small ∷ unit_answer 1 2 small ∷ unit_answer 2 0 small ∷ unit_answer 3 1 small ∷ [] ≡ Ok (record { allocated = 40; billed = 131; payment = 28000 }) ∷ Ok (record { allocated = 1; billed = 2; payment = 3 }) ∷ Err NoUnit ∷ Err NoUnit ∷ Err NoUnit ∷ []
   pub plant_questions : plant_answer 1 small ∷ plant_answer 0 small ∷ plant_answer 2 small ∷ [] ≡ Ok (record { committed = 50; allocated = 41; run = 11; support = 21; rate = 350; cost = 9000 }) ∷ Err NoPlant ∷ Err NoPlant ∷ []
   pub buyer_questions : buyer_answer 1 small ∷ buyer_answer 0 small ∷ buyer_answer 2 small ∷ [] ≡ Ok (record { share = 130; net = negsuc 79 }) ∷ Err NoBuyer ∷ Err NoBuyer ∷ []
