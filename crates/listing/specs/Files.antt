@@ -17,6 +17,10 @@ use Rattle.listing.specs.declared.listed.Listed.{Listed}
 abbrev pub too_short : ℕ → FileFault
 too_short place = record { cause = ShortBuffer; place = place }
 
+-- a file that ends before settle
+abbrev pub ended : ℕ → FileFault
+ended place = record { cause = Ended; place = place }
+
 -- a listing's end as a file's
 abbrev pub list_end : Result ℕ ListingError → ℕ → Result ℕ ListError
 list_end (Ok n) place = Ok n
@@ -33,9 +37,9 @@ IsListed text place before (Err (Fault fault)) after =
 
 -- a settled hour is listed; another has no listing
 abbrev pub ReachedListed : Reached → ℕ → List ℕ → Result ℕ ListError → List ℕ → Type 0
-ReachedListed (Unopened book) place before end after = (end ≡ Err (Fault (record { cause = Ended; place = place }))) × (after ≡ before)
-ReachedListed (Open hour) place before end after = (end ≡ Err (Fault (record { cause = Ended; place = place }))) × (after ≡ before)
-ReachedListed (Closed hour) place before end after = (end ≡ Err (Fault (record { cause = Ended; place = place }))) × (after ≡ before)
+ReachedListed (Unopened book) place before end after = (end ≡ Err (Fault (ended place))) × (after ≡ before)
+ReachedListed (Open hour) place before end after = (end ≡ Err (Fault (ended place))) × (after ≡ before)
+ReachedListed (Closed hour) place before end after = (end ≡ Err (Fault (ended place))) × (after ≡ before)
 ReachedListed (Settled hour) place before end after = IsListed (listing_of hour.table.now) place before end after
 
 -- a fault of the file is the answer, and nothing is written; without one the settled hour is listed

@@ -2,7 +2,6 @@
 use Rattle.std.specs.Prelude.{◌≡◌, ℕ, List, ◌++◌, codes, Option, Some, None}
 use Rattle.table.specs.declared.records.Table.{Table}
 use Rattle.hourfile.specs.Faults.{fault_text}
-use Rattle.hourfile.specs.declared.faults.Cause.TheVariants.{Ended}
 use Rattle.hourfile.specs.declared.faults.FileFault.{FileFault}
 use Rattle.reader.specs.Holds.{SettledHolds}
 use Rattle.reader.specs.Outcome.{outcome}
@@ -10,6 +9,7 @@ use Rattle.reader.specs.Progress.{Progress}
 use Rattle.reader.specs.Progress.Progress.{Unopened as NotOpened, Opened, Closed as IsClosed, Settled as Done}
 use Rattle.reader.specs.declared.reached.Reached.{Reached}
 use Rattle.reader.specs.declared.reached.Reached.TheVariants.{Unopened, Open, Closed, Settled}
+use Rattle.listing.specs.Files.{ended}
 use Rattle.listing.specs.Listing.{listing_of}
 
 -- a fault and a line feed
@@ -18,9 +18,9 @@ fault_line fault = fault_text fault ++ codes "\n"
 
 -- a settled hour is shown by its listing; another has none, and is a file that ended too soon
 abbrev pub HourShown : Reached → ℕ → List ℕ → Type 0
-HourShown (Unopened book) place text = text ≡ fault_line (record { cause = Ended; place = place })
-HourShown (Open hour) place text = text ≡ fault_line (record { cause = Ended; place = place })
-HourShown (Closed hour) place text = text ≡ fault_line (record { cause = Ended; place = place })
+HourShown (Unopened book) place text = text ≡ fault_line (ended place)
+HourShown (Open hour) place text = text ≡ fault_line (ended place)
+HourShown (Closed hour) place text = text ≡ fault_line (ended place)
 HourShown (Settled hour) place text = text ≡ listing_of hour.table.now
 
 -- a table with the figures of the hour that a file led to

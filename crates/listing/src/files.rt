@@ -1,8 +1,8 @@
 // Lists an hour file: from its first byte to the listing's last.
-ghost use Rattle.std.specs.Prelude.{◌≡◌};
+ghost use Rattle.std.specs.Prelude.{◌≡◌, min, length};
 ghost use Rattle.listing.specs.Printed.{OneListing};
 ghost use Rattle.reader.specs.Outcome.{outcome};
-ghost use Rattle.listing.specs.Files.{HourListed, ReachedListed, list_end};
+ghost use Rattle.listing.specs.Files.{HourListed, ReachedListed, ended, list_end};
 
 use crate::errors::{ListError, ListingError};
 use crate::listed::Listed;
@@ -11,6 +11,23 @@ use book::Book;
 use hourfile::{Cause, FileFault, MOST_BYTES};
 use reader::{FileHour, Reached, read_hour};
 use std::alloc::Global;
+
+// The length of a file, as a place; a file that is too long counts as the longest.
+pub(crate) fn length_of(file: &[u8]) -> u32
+    ensures { result ≡ min (length file.now) 65536 }
+{
+    file.len().min(MOST_BYTES) as u32
+}
+
+// The fault of a file of so many bytes that ends before settle.
+pub(crate) fn ended(place: u32) -> FileFault
+    ensures { result ≡ ended place }
+{
+    FileFault {
+        cause: Cause::Ended,
+        place,
+    }
+}
 
 // The end of a listing whose file has so many bytes.
 fn list_end(end: Result<usize, ListingError>, place: u32) -> Result<usize, ListError>
@@ -38,10 +55,7 @@ fn list_reached(
     match reached {
         Reached::Settled(hour) => list_end(write_listing(heap, hour, out), place),
         Reached::Unopened(_) | Reached::Open(_) | Reached::Closed(_) => {
-            Err(ListError::Fault(FileFault {
-                cause: Cause::Ended,
-                place,
-            }))
+            Err(ListError::Fault(ended(place)))
         }
     }
 }
@@ -52,9 +66,8 @@ pub fn list_hour<'b>(heap: Global, book: &'b mut Book, file: &[u8], out: &mut [u
     ensures one { OneListing (outcome file.now).progress }
 {
     let FileHour { reached, end } = read_hour(book, file);
-    let place = file.len().min(MOST_BYTES) as u32;
     let end = match end {
-        Ok(()) => list_reached(heap, &reached, place, out),
+        Ok(()) => list_reached(heap, &reached, length_of(file), out),
         Err(fault) => Err(ListError::Fault(fault)),
     };
     Listed { reached, end }

@@ -3,9 +3,10 @@ ghost use Rattle.std.specs.Prelude.{◌≡◌, IfOk};
 ghost use Rattle.std.specs.String.{string_bytes};
 ghost use Rattle.listing.specs.Printed.{fault_line, HourShown, IsPrinted};
 
+use crate::files::{ended, length_of};
 use crate::text::listing;
 use book::Book;
-use hourfile::{Cause, FileFault, MOST_BYTES};
+use hourfile::FileFault;
 use reader::{FileHour, Reached, read_hour};
 use std::alloc::{AllocError, Global};
 
@@ -22,13 +23,9 @@ fn hour_shown(heap: Global, reached: &Reached, place: u32) -> Result<String, All
 {
     match reached {
         Reached::Settled(hour) => listing(heap, hour),
-        Reached::Unopened(_) | Reached::Open(_) | Reached::Closed(_) => fault_line(
-            heap,
-            FileFault {
-                cause: Cause::Ended,
-                place,
-            },
-        ),
+        Reached::Unopened(_) | Reached::Open(_) | Reached::Closed(_) => {
+            fault_line(heap, ended(place))
+        }
     }
 }
 
@@ -39,7 +36,7 @@ pub fn printed(heap: Global, file: &[u8]) -> Result<String, AllocError>
     let mut book = Book::new();
     let FileHour { reached, end } = read_hour(&mut book, file);
     match end {
-        Ok(()) => hour_shown(heap, &reached, file.len().min(MOST_BYTES) as u32),
+        Ok(()) => hour_shown(heap, &reached, length_of(file)),
         Err(fault) => fault_line(heap, fault),
     }
 }

@@ -14,9 +14,9 @@ returns-clause-listed c =
     let read = c.read_hour-reached.result in
     elim c.match-end.branch [
       | in-Ok w ↦
-          hour_listed book file before read c.read_hour-reached.ensures.read c.match-end.end c.match-end.out w.in-Ok.field-0 c.min-place.result w.in-Ok.is c.min-place.ensures
-          (subst (λ e. ReachedListed read.reached c.min-place.result before e c.match-end.out) (sym w.end-is)
-          (subst (λ o. ReachedListed read.reached c.min-place.result before w.list_reached-end.result o) (sym w.out-is) w.list_reached-end.ensures))
+          hour_listed book file before read c.read_hour-reached.ensures.read c.match-end.end c.match-end.out w.in-Ok.field-0 w.length_of.result w.in-Ok.is w.length_of.ensures
+          (subst (λ e. ReachedListed read.reached w.length_of.result before e c.match-end.out) (sym w.end-is)
+          (subst (λ o. ReachedListed read.reached w.length_of.result before w.list_reached-end.result o) (sym w.out-is) w.list_reached-end.ensures))
       | in-Err w ↦
           fault_listed book file before read c.read_hour-reached.ensures.read c.match-end.end c.match-end.out w.in-Err.fault w.in-Err.is w.end-is w.out-is
     ]

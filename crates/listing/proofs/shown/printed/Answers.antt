@@ -6,8 +6,8 @@ use Rattle.listing.proofs.shown.printed.Goals as goal
 
 pub returns-in-Ok : goal.returns-in-Ok
 returns-in-Ok c =
-    on_ok (λ text. HourShown c.read_hour-reached.result.reached c.min.result (string_bytes text)) (λ text. IsPrinted c.args.file.now (string_bytes text))
-    (λ text shown. shows_hour c.new-book.result.table c.args.file.now c.read_hour-reached.result c.read_hour-reached.ensures.read (string_bytes text) c.in-Ok.field-0 c.min.result c.in-Ok.is shown)
+    on_ok (λ text. HourShown c.read_hour-reached.result.reached c.length_of.result (string_bytes text)) (λ text. IsPrinted c.args.file.now (string_bytes text))
+    (λ text shown. shows_hour c.new-book.result.table c.args.file.now c.read_hour-reached.result c.read_hour-reached.ensures.read (string_bytes text) c.in-Ok.field-0 c.length_of.result c.in-Ok.is shown)
     c.hour_shown.result c.hour_shown.ensures
 
 pub returns-in-Err : goal.returns-in-Err
