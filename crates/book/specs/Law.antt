@@ -23,15 +23,21 @@ entered entries = accepted [] entries
 abbrev pub metered : List Entry → List Reading → List Reading
 metered entries readings = accepted_readings (view_in (entered entries)) [] readings
 
--- each entry is answered by the entries accepted before it
-pub record EntriesJudged (entries : List Entry) (before after : Answers) : Type 0 where
-  pub answered : (i : ℕ) → i < length entries → i < length before → answer_at after i ≡ answer_in (slice_index_or entries i (AddPlant 0)) (entered (take i entries))
+-- each entry of a list is answered by the entries accepted before it, those before the list among them
+pub record EntriesJudgedFrom (h entries : List Entry) (before after : Answers) : Type 0 where
+  pub answered : (i : ℕ) → i < length entries → i < length before → answer_at after i ≡ answer_in (slice_index_or entries i (AddPlant 0)) (accepted h (take i entries))
   pub others : (i : ℕ) → length entries ≤ i → answer_at after i ≡ answer_at before i
 
--- each reading is answered by what was entered
-pub record ReadingsJudged (entries : List Entry) (readings : List Reading) (before after : Answers) : Type 0 where
-  pub answered : (i : ℕ) → i < length readings → i < length before → answer_at after i ≡ reading_answer_in (view_in (entered entries)) (slice_index_or readings i (Use 0 0))
+abbrev pub EntriesJudged : List Entry → Answers → Answers → Type 0
+EntriesJudged entries before after = EntriesJudgedFrom [] entries before after
+
+-- each reading of a list is answered by the entries accepted before
+pub record ReadingsJudgedBy (h : List Entry) (readings : List Reading) (before after : Answers) : Type 0 where
+  pub answered : (i : ℕ) → i < length readings → i < length before → answer_at after i ≡ reading_answer_in (view_in h) (slice_index_or readings i (Use 0 0))
   pub others : (i : ℕ) → length readings ≤ i → answer_at after i ≡ answer_at before i
+
+abbrev pub ReadingsJudged : List Entry → List Reading → Answers → Answers → Type 0
+ReadingsJudged entries readings before after = ReadingsJudgedBy (entered entries) readings before after
 
 -- the table has a row for each plant, unit and buyer that was entered, and no other
 pub record RowsOf (h : List Entry) (t : Table) : Type 0 where

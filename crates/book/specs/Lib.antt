@@ -1,3 +1,4 @@
 pub mod Questions
 pub mod Law
+pub mod Hours
 pub mod Taken

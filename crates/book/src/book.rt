@@ -1,5 +1,6 @@
 // The book: one hour at a time.
-ghost use Rattle.std.specs.Prelude.{◌≡◌};
+ghost use Rattle.std.specs.Prelude.{◌≡◌, []};
+ghost use Rattle.book.specs.Hours.{IsOpen};
 ghost use Rattle.table.specs.History.{empty_table};
 
 use crate::open::OpenHour;
@@ -23,14 +24,14 @@ impl Book {
 
     // That the header is the one given stands in each contract of what opens an hour: no plainer as a record.
     /// Opens an empty hour, whatever the book held.
+    #[tactic(auto, using(crate::proofs::Hours::empty_open))]
     pub fn open<'b>(&'b mut self, header: Header) -> OpenHour<'b>
-        ensures empty { result.table.now ≡ empty_table }
+        ensures empty { result.book.now.table ≡ empty_table }
         ensures header { result.header ≡ header }
+        ensures book { result.book.ghost_name ≡ self.entry.ghost_name }
+        ensures stands { IsOpen header [] result }
     {
         self.table = Table::empty();
-        OpenHour {
-            table: &mut self.table,
-            header,
-        }
+        OpenHour { book: self, header }
     }
 }

@@ -2,20 +2,19 @@
 ghost use Rattle.std.specs.Prelude.{◌≡◌};
 ghost use Rattle.settling.specs.Figures.{pay_by};
 ghost use Rattle.settling.specs.Settled.{Settled};
-ghost use Rattle.book.specs.Taken.{ReadingTaken};
-ghost use Rattle.table.specs.Readings.{after_readings};
-ghost use Rattle.table.specs.Turns.{ReadingsAnswered};
+ghost use Rattle.book.specs.Hours.{rows_by};
+ghost use Rattle.book.specs.Taken.{ReadingTaken, ReadingsTaken, SettlesBy};
 
+use crate::open::OpenHour;
 use crate::settled::SettledHour;
 use curves::{Curve, Offer};
 use settling::{Header, PriceRow, settle};
-use table::{BookRefusal, GuaranteedReading, Reading, Table, UnitReading};
+use table::{BookRefusal, GuaranteedReading, Reading, UnitReading};
 
 /// An hour whose commitments are split.
 #[derive(Drop)]
 pub struct ClosedHour<'b> {
-    pub(crate) table: &'b mut Table,
-    pub(crate) header: Header,
+    pub(crate) opened: OpenHour<'b>,
 }
 
 // The methods take a reading's parameters one by one: they are the public calls. That the header stays stands in the
@@ -23,16 +22,17 @@ pub struct ClosedHour<'b> {
 impl<'b> ClosedHour<'b> {
     /// The header by which the hour will be settled.
     pub fn header(&self) -> Header
-        ensures { result ≡ self.now.header }
+        ensures { result ≡ self.now.opened.header }
     {
-        self.header
+        self.opened.header
     }
 
     /// Takes a reading: answers the number of the row that it changed, or what turned it down.
     pub fn read(&mut self, reading: Reading) -> Result<u32, BookRefusal>
         ensures { ReadingTaken reading result self.old self.new }
     {
-        self.table.read(reading)
+        let hour = &mut self.opened;
+        hour.book.table.read(reading)
     }
 
     /// Takes a competitive unit's reading.
@@ -62,11 +62,10 @@ impl<'b> ClosedHour<'b> {
 
     /// Takes readings in turn, and writes down what each answers, as far as there is room.
     pub fn read_all(&mut self, readings: &[Reading], answers: &mut [Result<u32, BookRefusal>])
-        ensures after { self.new.table.now ≡ after_readings readings.now self.old.table.now }
-        ensures header { self.new.header ≡ self.old.header }
-        ensures answered { ReadingsAnswered readings.now self.old.table.now answers.old answers.new }
+        ensures { ReadingsTaken readings.now answers.old answers.new self.old self.new }
     {
-        self.table.read_all(readings, answers);
+        let hour = &mut self.opened;
+        hour.book.table.read_all(readings, answers);
     }
 
     /// Settles the hour: writes every figure, by a price row for each competitive unit and an offer for each guaranteed
@@ -76,10 +75,11 @@ impl<'b> ClosedHour<'b> {
         rows: &[PriceRow<O, C>],
         offers: &[G],
     ) -> SettledHour<'b>
-        ensures { Settled self.entry.header (pay_by O.Curve.prices C.Curve.prices rows.now G.Curve.prices offers.now self.entry.header) self.entry.table.now result.table.now }
+        ensures law { SettlesBy (rows_by O.Curve.prices C.Curve.prices rows.now G.Curve.prices offers.now) self.entry result }
+        ensures settled { Settled self.entry.opened.header (pay_by O.Curve.prices C.Curve.prices rows.now G.Curve.prices offers.now self.entry.opened.header) self.entry.opened.book.now.table result.book.now.table }
     {
-        let table = self.table;
-        settle(table, &self.header, rows, offers);
-        SettledHour { table }
+        let OpenHour { book, header } = self.opened;
+        settle(&mut book.table, &header, rows, offers);
+        SettledHour { book }
     }
 }

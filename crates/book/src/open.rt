@@ -1,20 +1,20 @@
 // The open hour: it takes entries and closing.
 ghost use Rattle.std.specs.Prelude.{◌≡◌};
 ghost use Rattle.table.specs.Closing.{Closed};
-ghost use Rattle.book.specs.Taken.{EntryTaken};
-ghost use Rattle.table.specs.Effects.{after_entries, priced_answer, after_priced};
-ghost use Rattle.table.specs.Turns.{EntriesAnswered};
+ghost use Rattle.book.specs.Hours.{offers_by};
+ghost use Rattle.book.specs.Taken.{EntryTaken, PricedTaken, EntriesTaken, ClosesBy};
 
+use crate::book::Book;
 use crate::closed::ClosedHour;
 use curves::{CurveRefusal, Offer};
 use settling::Header;
-use table::{BookRefusal, Entry, Table, UnitRefusal};
+use table::{BookRefusal, Entry, UnitRefusal};
 
 // A type of its own beside the closed hour of the same fields: what comes out of turn must not build.
 /// An hour into which is sold.
 #[derive(Drop)]
 pub struct OpenHour<'b> {
-    pub(crate) table: &'b mut Table,
+    pub(crate) book: &'b mut Book,
     pub(crate) header: Header,
 }
 
@@ -33,7 +33,7 @@ impl<'b> OpenHour<'b> {
     pub fn enter(&mut self, entry: Entry) -> Result<u32, BookRefusal>
         ensures { EntryTaken entry result self.old self.new }
     {
-        self.table.enter(entry)
+        self.book.table.enter(entry)
     }
 
     /// Adds a plant with its loss to the reference point.
@@ -68,11 +68,9 @@ impl<'b> OpenHour<'b> {
         internal: u32,
         rows: Result<R, CurveRefusal>,
     ) -> Result<(u32, R), UnitRefusal>
-        ensures answer { result ≡ priced_answer plant declared internal rows self.old.table.now }
-        ensures after { self.new.table.now ≡ after_priced plant declared internal rows self.old.table.now }
-        ensures header { self.new.header ≡ self.old.header }
+        ensures { PricedTaken plant declared internal rows result self.old self.new }
     {
-        self.table.add_priced(plant, declared, internal, rows)
+        self.book.table.add_priced(plant, declared, internal, rows)
     }
 
     /// Adds a guaranteed unit of a plant.
@@ -140,22 +138,19 @@ impl<'b> OpenHour<'b> {
 
     /// Takes entries in turn, and writes down what each answers, as far as there is room.
     pub fn enter_all(&mut self, entries: &[Entry], answers: &mut [Result<u32, BookRefusal>])
-        ensures after { self.new.table.now ≡ after_entries entries.now self.old.table.now }
-        ensures header { self.new.header ≡ self.old.header }
-        ensures answered { EntriesAnswered entries.now self.old.table.now answers.old answers.new }
+        ensures { EntriesTaken entries.now answers.old answers.new self.old self.new }
     {
-        self.table.enter_all(entries, answers);
+        self.book.table.enter_all(entries, answers);
     }
 
     /// Closes the hour: splits each plant's commitments over its units, by one offer for each.
     pub fn close<O: Offer, G: Offer>(self, offers: &[O], guaranteed: &[G]) -> ClosedHour<'b>
-        ensures closed { Closed O.Curve.prices offers.now G.Curve.prices guaranteed.now self.entry.table.now result.table.now }
-        ensures header { result.header ≡ self.entry.header }
+        ensures closed { Closed O.Curve.prices offers.now G.Curve.prices guaranteed.now self.entry.book.now.table result.opened.book.now.table }
+        ensures header { result.opened.header ≡ self.entry.header }
+        ensures book { result.opened.book.ghost_name ≡ self.entry.book.ghost_name }
+        ensures stands { ClosesBy (offers_by O.Curve.prices offers.now G.Curve.prices guaranteed.now) self.entry result }
     {
-        self.table.close(offers, guaranteed);
-        ClosedHour {
-            table: self.table,
-            header: self.header,
-        }
+        self.book.table.close(offers, guaranteed);
+        ClosedHour { opened: self }
     }
 }

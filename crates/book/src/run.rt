@@ -34,9 +34,10 @@ pub fn run_open<'b>(
     answers: &mut [Result<u32, BookRefusal>],
 ) -> OpenHour<'b>
     ensures judged { EntriesJudged entries.now answers.old answers.new }
-    ensures stands { Stands (entered entries.now) result.table.now }
-    ensures unread { Metered [] result.table.now }
+    ensures stands { Stands (entered entries.now) result.book.now.table }
+    ensures unread { Metered [] result.book.now.table }
     ensures header { result.header ≡ header }
+    ensures book { result.book.ghost_name ≡ book.entry.ghost_name }
 {
     let mut hour = book.open(header);
     hour.enter_all(entries, answers);
@@ -54,10 +55,11 @@ pub fn run_closed<'b, O: Offer, G: Offer>(
 ) -> ClosedHour<'b>
     ensures judged { EntriesJudged calls.now.entries.now entry_answers.old entry_answers.new }
     ensures read { ReadingsJudged calls.now.entries.now calls.now.readings.now reading_answers.old reading_answers.new }
-    ensures law { ClosingLaw O.Curve.prices calls.now.offers.now G.Curve.prices calls.now.guaranteed.now (entered calls.now.entries.now) result.table.now }
-    ensures stands { Stands (entered calls.now.entries.now) result.table.now }
-    ensures metered { Metered (metered calls.now.entries.now calls.now.readings.now) result.table.now }
-    ensures header { result.header ≡ header }
+    ensures law { ClosingLaw O.Curve.prices calls.now.offers.now G.Curve.prices calls.now.guaranteed.now (entered calls.now.entries.now) result.opened.book.now.table }
+    ensures stands { Stands (entered calls.now.entries.now) result.opened.book.now.table }
+    ensures metered { Metered (metered calls.now.entries.now calls.now.readings.now) result.opened.book.now.table }
+    ensures header { result.opened.header ≡ header }
+    ensures book { result.opened.book.ghost_name ≡ book.entry.ghost_name }
 {
     let open = run_open(book, header, calls.entries, entry_answers);
     let mut hour = open.close(calls.offers, calls.guaranteed);
@@ -78,9 +80,9 @@ pub fn run_settled<'b, O: Offer, G: Offer, P: Offer, C: Curve, H: Offer>(
 ) -> SettledHour<'b>
     ensures judged { EntriesJudged calls.now.entries.now entry_answers.old entry_answers.new }
     ensures read { ReadingsJudged calls.now.entries.now calls.now.readings.now reading_answers.old reading_answers.new }
-    ensures law { SettledLaw O.Curve.prices calls.now.offers.now G.Curve.prices calls.now.guaranteed.now header (pay_by P.Curve.prices C.Curve.prices rows.now H.Curve.prices offers.now header) (entered calls.now.entries.now) (metered calls.now.entries.now calls.now.readings.now) result.table.now }
-    ensures rows { RowsOf (entered calls.now.entries.now) result.table.now }
-    ensures only { OnlyFigures O.Curve.prices calls.now.offers.now G.Curve.prices calls.now.guaranteed.now header (pay_by P.Curve.prices C.Curve.prices rows.now H.Curve.prices offers.now header) (entered calls.now.entries.now) (metered calls.now.entries.now calls.now.readings.now) result.table.now }
+    ensures law { SettledLaw O.Curve.prices calls.now.offers.now G.Curve.prices calls.now.guaranteed.now header (pay_by P.Curve.prices C.Curve.prices rows.now H.Curve.prices offers.now header) (entered calls.now.entries.now) (metered calls.now.entries.now calls.now.readings.now) result.book.now.table }
+    ensures rows { RowsOf (entered calls.now.entries.now) result.book.now.table }
+    ensures only { OnlyFigures O.Curve.prices calls.now.offers.now G.Curve.prices calls.now.guaranteed.now header (pay_by P.Curve.prices C.Curve.prices rows.now H.Curve.prices offers.now header) (entered calls.now.entries.now) (metered calls.now.entries.now calls.now.readings.now) result.book.now.table }
 {
     let hour = run_closed(book, header, calls, entry_answers, reading_answers);
     hour.settle(rows, offers)

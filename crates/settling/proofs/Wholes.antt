@@ -76,8 +76,10 @@ module _ (header : Header) (pay : Pay) (t : Table) (one two : UnitTable) (settle
             ∙ ap (λ o. by (hour_money pay book) o i) over_same
             ∙ ap (λ f. settled_plant f (plant_at t i)) (figures_same header (hour_money pay book) (hour_over book) (plant_at t i) (both_totals (Some (i + 1)) one two) _ _ _ (billed_of (i + 1)) (paid_of_lem (i + 1)) (active_of_lem (i + 1)));
         plants_later = r.plants_later;
+        plants_long = r.plants_long;
         buyers = λ i lt. r.buyers i lt ∙ ap (λ b. buyer b i) all_billed;
         buyers_later = r.buyers_later;
+        buyers_long = r.buyers_long;
         hour = r.hour ∙ ap (λ b. hour_by b (volumes (sold_of t)) (weights_of (min t.buyers.count 64) t.buyers.rows)) all_billed;
         rest = r.rest ∙ ap (λ x. with_rows after.plants.rows x two after.buyers.rows after.figures t) (sym (ap (λ (x : Table). x.competitive) r.rest))
             ∙ ap (λ y. with_rows after.plants.rows after.competitive y after.buyers.rows after.figures t) (sym (ap (λ (x : Table). x.guaranteed) r.rest));

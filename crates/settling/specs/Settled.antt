@@ -1,6 +1,6 @@
 -- What settling leaves in the table.
 use Rattle.table.specs.Places.{unit_at, plant_at, buyer_at}
-use Rattle.std.specs.Prelude.{◌≡◌, ℕ, ◌<◌, ◌≤◌, min, List}
+use Rattle.std.specs.Prelude.{◌≡◌, ℕ, ◌<◌, ◌≤◌, min, List, length}
 use Rattle.table.specs.Closing.{SameUnits}
 use Rattle.table.specs.Rows.{UnitTable}
 use Rattle.table.specs.declared.records.Buyer.{Buyer}
@@ -62,7 +62,9 @@ pub record Settled (header : Header) (pay : Pay) (before after : Table) : Type 0
   pub guaranteed : GroupSettled (pay 2) before.plants.rows before.guaranteed after.guaranteed
   pub plants : (i : ℕ) → i < (ledger_of before).plants → plant_at after i ≡ settled_plant (plant_figures header pay (ledger_of before) i) (plant_at before i)
   pub plants_later : (i : ℕ) → (ledger_of before).plants ≤ i → plant_at after i ≡ plant_at before i
+  pub plants_long : length after.plants.rows ≡ length before.plants.rows
   pub buyers : (i : ℕ) → i < (ledger_of before).buyers → buyer_at after i ≡ settled_buyer (buyer_figures (ledger_of before) i) (buyer_at before i)
   pub buyers_later : (i : ℕ) → (ledger_of before).buyers ≤ i → buyer_at after i ≡ buyer_at before i
+  pub buyers_long : length after.buyers.rows ≡ length before.buyers.rows
   pub hour : after.figures ≡ hour_figures (ledger_of before)
   pub rest : after ≡ with_rows after.plants.rows after.competitive after.guaranteed after.buyers.rows after.figures before

@@ -1,6 +1,6 @@
 -- The figures of plants and buyers by what stands in the records when they are written.
 use Rattle.table.specs.Places.{unit_at, plant_at, buyer_at}
-use Rattle.std.specs.Prelude.{◌≡◌, ℕ, ◌+◌, ◌-◌, ◌*◌, ◌<◌, ◌≤◌, min, cond, List, take, ℤ, pos, ◌-ℤ◌, Some, None, Option, ◌==◌, slice_index_or}
+use Rattle.std.specs.Prelude.{◌≡◌, ℕ, ◌+◌, ◌-◌, ◌*◌, ◌<◌, ◌≤◌, min, cond, List, length, take, ℤ, pos, ◌-ℤ◌, Some, None, Option, ◌==◌, slice_index_or}
 use Rattle.std.specs.Option.{unwrap_or}
 use Rattle.allocation.specs.Groups.{sum_of}
 use Rattle.settlement.specs.Shares.{running_share, weight_of}
@@ -84,7 +84,9 @@ sold_of t = take (min t.commitments.count 768) t.commitments.rows
 pub record RestSettled (header : Header) (before after : Table) : Type 0 where
   pub plants : (i : ℕ) → i < min before.plants.count 32 → plant_at after i ≡ settled_plant (figures_by header (money_of (both_totals None before.competitive before.guaranteed)) (pos (both_totals None before.competitive before.guaranteed).billed -ℤ pos (volumes (sold_of before))) (plant_at before i) (both_totals (Some (i + 1)) before.competitive before.guaranteed)) (plant_at before i)
   pub plants_later : (i : ℕ) → min before.plants.count 32 ≤ i → plant_at after i ≡ plant_at before i
+  pub plants_long : length after.plants.rows ≡ length before.plants.rows
   pub buyers : (i : ℕ) → i < min before.buyers.count 64 → buyer_at after i ≡ settled_buyer (buyer_figures_by (both_totals None before.competitive before.guaranteed).billed (weights_of i before.buyers.rows) (weights_of (i + 1) before.buyers.rows) (weights_of (min before.buyers.count 64) before.buyers.rows) (bought_by (i + 1) (sold_of before))) (buyer_at before i)
   pub buyers_later : (i : ℕ) → min before.buyers.count 64 ≤ i → buyer_at after i ≡ buyer_at before i
+  pub buyers_long : length after.buyers.rows ≡ length before.buyers.rows
   pub hour : after.figures ≡ hour_by (both_totals None before.competitive before.guaranteed).billed (volumes (sold_of before)) (weights_of (min before.buyers.count 64) before.buyers.rows)
   pub rest : after ≡ with_rows after.plants.rows before.competitive before.guaranteed after.buyers.rows after.figures before

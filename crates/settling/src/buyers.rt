@@ -114,6 +114,7 @@ impl Shares {
 pub(crate) fn settle_buyers(buyers: &mut Rows<Buyer, BUYERS>, sold: &Sold, shares: &Shares)
     requires { shares.now.weights ≡ weights_of (min buyers.old.count 64) buyers.old.rows }
     ensures count { buyers.new.count ≡ buyers.old.count }
+    ensures long { length buyers.new.rows ≡ length buyers.old.rows }
     ensures entered { (k : ℕ) → k < min buyers.old.count 64 → slice_index_or buyers.new.rows k (new_buyer 0) ≡ settled_buyer (buyer_figures_by shares.now.billed (weights_of k buyers.old.rows) (weights_of (k + 1) buyers.old.rows) shares.now.weights (bought_by (k + 1) sold.now.commitments.now)) (slice_index_or buyers.old.rows k (new_buyer 0)) }
     ensures others { (k : ℕ) → min buyers.old.count 64 ≤ k → slice_index_or buyers.new.rows k (new_buyer 0) ≡ slice_index_or buyers.old.rows k (new_buyer 0) }
 {

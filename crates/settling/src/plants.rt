@@ -94,6 +94,7 @@ impl HourTerms<'_> {
 /// Settles each plant that is entered by its own units.
 pub(crate) fn settle_plants(plants: &mut Rows<Plant, PLANTS>, units: &PaidUnits, terms: &HourTerms)
     ensures count { plants.new.count ≡ plants.old.count }
+    ensures long { length plants.new.rows ≡ length plants.old.rows }
     ensures entered { (k : ℕ) → k < min plants.old.count 32 → slice_index_or plants.new.rows k (new_plant 0) ≡ settled_plant (figures_by terms.now.header.now terms.now.money terms.now.over (slice_index_or plants.old.rows k (new_plant 0)) (both_totals (Some (k + 1)) units.now.competitive.now units.now.guaranteed.now)) (slice_index_or plants.old.rows k (new_plant 0)) }
     ensures others { (k : ℕ) → min plants.old.count 32 ≤ k → slice_index_or plants.new.rows k (new_plant 0) ≡ slice_index_or plants.old.rows k (new_plant 0) }
 {

@@ -15,8 +15,8 @@ returns g c =
     let guaranteed = c.args.calls.now.guaranteed.now in
     let prices1 = g.O.Curve.prices in
     let prices2 = g.G.Curve.prices in
-    let start = c.run_open-open.result.table.now in
-    let closed = c.close-hour.result.table.now in
+    let start = c.run_open-open.result.book.now.table in
+    let closed = c.close-hour.result.opened.book.now.table in
     let s = c.run_open-open.ensures.stands in
     let done = c.close-hour.ensures.closed in
     let led = c.read_all.ensures.after in
@@ -27,4 +27,5 @@ returns g c =
       stands = subst (Stands (entered entries)) (sym led) (run_closed_stands entries prices1 offers prices2 guaranteed start closed s done readings);
       metered = subst (Metered (metered entries readings)) (sym led) (run_closed_metered entries prices1 offers prices2 guaranteed start closed s done readings c.run_open-open.ensures.unread);
       header = c.read_all.ensures.header ∙ c.close-hour.ensures.header ∙ c.run_open-open.ensures.header;
+      book = c.read_all.ensures.book ∙ c.close-hour.ensures.book ∙ c.run_open-open.ensures.book;
     }

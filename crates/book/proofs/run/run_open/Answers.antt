@@ -15,4 +15,5 @@ returns c =
       stands = subst (Stands (entered entries)) (sym led) (entered_stands entries);
       unread = subst (Metered []) (sym led) (entered_unread entries);
       header = c.enter_all.ensures.header ∙ c.open-hour.ensures.header;
+      book = c.enter_all.ensures.book ∙ c.open-hour.ensures.book;
     }

@@ -14,11 +14,11 @@ returns g c =
     let guaranteed = c.args.calls.now.guaranteed.now in
     let prices1 = g.O.Curve.prices in
     let prices2 = g.G.Curve.prices in
-    let t = c.run_closed-hour.result.table.now in
-    let after = c.settle.result.table.now in
+    let t = c.run_closed-hour.result.opened.book.now.table in
+    let after = c.settle.result.book.now.table in
     let header = c.args.header in
     let pay = λ (h : Header). pay_by g.P.Curve.prices g.C.Curve.prices c.args.rows.now g.H.Curve.prices c.args.offers.now h in
-    let settled = subst (λ h. Settled h (pay h) t after) c.run_closed-hour.ensures.header c.settle.ensures in
+    let settled = subst (λ h. Settled h (pay h) t after) c.run_closed-hour.ensures.header c.settle.ensures.settled in
     let law = run_settled_law entries prices1 offers prices2 guaranteed header (pay header) readings t after c.run_closed-hour.ensures.stands c.run_closed-hour.ensures.metered c.run_closed-hour.ensures.law settled in
     record {
       judged = c.run_closed-hour.ensures.judged;

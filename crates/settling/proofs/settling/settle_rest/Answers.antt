@@ -51,11 +51,13 @@ returns c =
       plants = λ i lt. c.settle_plants.ensures.entered i (omega arith) ∙ ap (λ h. plant h terms.money terms.over i) c.new-terms.ensures.header
           ∙ ap (λ x. plant header x terms.over i) money ∙ ap (λ o. plant header (money_of all) o i) over;
       plants_later = λ i past. c.settle_plants.ensures.others i (omega arith);
+      plants_long = c.settle_plants.ensures.long;
       buyers = λ i lt. c.settle_buyers.ensures.entered i (omega arith)
           ∙ ap (λ b. buyer b c.new-shares.result.weights (bought_by (i + 1) c.entered.result.now) i) (c.new-shares.ensures.billed ∙ billed)
           ∙ ap (λ w. buyer all.billed w (bought_by (i + 1) c.entered.result.now) i) weights
           ∙ ap (λ l. buyer all.billed (weights_of m t.buyers.rows) (bought_by (i + 1) l) i) rows;
       buyers_later = λ i past. c.settle_buyers.ensures.others i (omega arith);
+      buyers_long = c.settle_buyers.ensures.long;
       hour = ap (hour c.totals-totals.result.billed c.volumes-committed.result) (c.unassigned.ensures ∙ ap (λ b. cond (eqb c.new-shares.result.weights 0) b 0) c.new-shares.ensures.billed)
           ∙ ap (λ b. hour_by b c.volumes-committed.result c.new-shares.result.weights) billed
           ∙ ap (λ s. hour_by all.billed s c.new-shares.result.weights) sold ∙ ap (hour_by all.billed (volumes (sold_of t))) weights;
