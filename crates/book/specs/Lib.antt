@@ -2,3 +2,4 @@ pub mod Questions
 pub mod Law
 pub mod Hours
 pub mod Taken
+pub mod States

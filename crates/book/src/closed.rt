@@ -68,18 +68,31 @@ impl<'b> ClosedHour<'b> {
         hour.book.table.read_all(readings, answers);
     }
 
+    // Writes every figure where the hour lies.
+    pub(crate) fn write_figures<O: Offer, C: Curve, G: Offer>(
+        &mut self,
+        rows: &[PriceRow<O, C>],
+        offers: &[G],
+    )
+        ensures settled { Settled self.old.opened.header (pay_by O.Curve.prices C.Curve.prices rows.now G.Curve.prices offers.now self.old.opened.header) self.old.opened.book.now.table self.new.opened.book.now.table }
+        ensures book { self.new.opened.book.ghost_name ≡ self.old.opened.book.ghost_name }
+    {
+        let hour = &mut self.opened;
+        settle(&mut hour.book.table, &hour.header, rows, offers);
+    }
+
     /// Settles the hour: writes every figure, by a price row for each competitive unit and an offer for each guaranteed
     /// one.
     pub fn settle<O: Offer, C: Curve, G: Offer>(
-        self,
+        mut self,
         rows: &[PriceRow<O, C>],
         offers: &[G],
     ) -> SettledHour<'b>
         ensures law { SettlesBy (rows_by O.Curve.prices C.Curve.prices rows.now G.Curve.prices offers.now) self.entry result }
         ensures settled { Settled self.entry.opened.header (pay_by O.Curve.prices C.Curve.prices rows.now G.Curve.prices offers.now self.entry.opened.header) self.entry.opened.book.now.table result.book.now.table }
     {
-        let OpenHour { book, header } = self.opened;
-        settle(&mut book.table, &header, rows, offers);
+        self.write_figures(rows, offers);
+        let book = self.opened.book;
         SettledHour { book }
     }
 }

@@ -2,12 +2,14 @@
 #![tactic(auto)]
 
 mod book;
+mod calls;
 mod closed;
 mod open;
 mod run;
 mod settled;
 
 pub use book::Book;
+pub use calls::{CallAnswer, Hour, HourCall, Turn, run_calls};
 pub use closed::ClosedHour;
 pub use open::OpenHour;
 pub use run::{Calls, run_closed, run_open, run_settled};
