@@ -284,40 +284,40 @@ module _ (entries : List Entry) (before after_all : Answers) (hour next : OpenHo
   }
 
 module _ (reading : Reading) (result : Result ℕ BookRefusal) (hour next : ClosedHour) where
-  pub reading_taken : result ≡ reading_answer reading hour.opened.book.now.table → next.opened.book.now.table ≡ after_reading reading hour.opened.book.now.table → next.opened.header ≡ hour.opened.header → next.opened.book.ghost_name ≡ hour.opened.book.ghost_name → ReadingTaken reading result hour next
+  pub reading_taken : result ≡ reading_answer reading hour.book.now.table → next.book.now.table ≡ after_reading reading hour.book.now.table → next.header ≡ hour.header → next.book.ghost_name ≡ hour.book.ghost_name → ReadingTaken reading result hour next
   reading_taken answer after header book = record {
     answer = answer;
     after = after;
     header = header;
     book = book;
-    follows = λ given offers h rs c. answer ∙ reading_answer_same reading h hour.opened.book.now.table c.table.stands;
+    follows = λ given offers h rs c. answer ∙ reading_answer_same reading h hour.book.now.table c.table.stands;
     stands = λ given offers h rs c. record {
       header = header ∙ c.header;
-      table = subst (ClosedTable offers h (next_readings (view_in h) reading rs)) (sym after) (reading_closed reading offers h rs hour.opened.book.now.table c.table);
+      table = subst (ClosedTable offers h (next_readings (view_in h) reading rs)) (sym after) (reading_closed reading offers h rs hour.book.now.table c.table);
     };
   }
 
 module _ (readings : List Reading) (before after_all : Answers) (hour next : ClosedHour) where
-  pub readings_taken : next.opened.book.now.table ≡ after_readings readings hour.opened.book.now.table → ReadingsAnswered readings hour.opened.book.now.table before after_all → next.opened.header ≡ hour.opened.header → next.opened.book.ghost_name ≡ hour.opened.book.ghost_name → ReadingsTaken readings before after_all hour next
+  pub readings_taken : next.book.now.table ≡ after_readings readings hour.book.now.table → ReadingsAnswered readings hour.book.now.table before after_all → next.header ≡ hour.header → next.book.ghost_name ≡ hour.book.ghost_name → ReadingsTaken readings before after_all hour next
   readings_taken after answered header book = record {
     after = after;
     answered = answered;
     header = header;
     book = book;
-    follows = λ given offers h rs c. readings_follow readings offers h rs hour.opened.book.now.table before after_all c.table answered;
+    follows = λ given offers h rs c. readings_follow readings offers h rs hour.book.now.table before after_all c.table answered;
     stands = λ given offers h rs c. record {
       header = header ∙ c.header;
-      table = subst (ClosedTable offers h (accepted_readings (view_in h) rs readings)) (sym after) (readings_closed readings offers h rs hour.opened.book.now.table c.table);
+      table = subst (ClosedTable offers h (accepted_readings (view_in h) rs readings)) (sym after) (readings_closed readings offers h rs hour.book.now.table c.table);
     };
   }
 
-pub closes : {O P : Type 0} (prices1 : O → Prices) (offers1 : List O) (prices2 : P → Prices) (offers2 : List P) (hour : OpenHour) (next : ClosedHour) → Closed prices1 offers1 prices2 offers2 hour.book.now.table next.opened.book.now.table → next.opened.header ≡ hour.header → ClosesBy (offers_by prices1 offers1 prices2 offers2) hour next
+pub closes : {O P : Type 0} (prices1 : O → Prices) (offers1 : List O) (prices2 : P → Prices) (offers2 : List P) (hour : OpenHour) (next : ClosedHour) → Closed prices1 offers1 prices2 offers2 hour.book.now.table next.book.now.table → next.header ≡ hour.header → ClosesBy (offers_by prices1 offers1 prices2 offers2) hour next
 closes prices1 offers1 prices2 offers2 hour next closed header given h o = record {
   header = header ∙ o.header;
-  table = closing_closes prices1 offers1 prices2 offers2 h hour.book.now.table next.opened.book.now.table closed o.table;
+  table = closing_closes prices1 offers1 prices2 offers2 h hour.book.now.table next.book.now.table closed o.table;
 }
 
-pub settles : {O C G : Type 0} (offer : O → Prices) (cost : C → Prices) (rows : List (PriceRow O C)) (guaranteed : G → Prices) (row_offers : List G) (hour : ClosedHour) (next : SettledHour) → Settled hour.opened.header (pay_by offer cost rows guaranteed row_offers hour.opened.header) hour.opened.book.now.table next.book.now.table → SettlesBy (rows_by offer cost rows guaranteed row_offers) hour next
+pub settles : {O C G : Type 0} (offer : O → Prices) (cost : C → Prices) (rows : List (PriceRow O C)) (guaranteed : G → Prices) (row_offers : List G) (hour : ClosedHour) (next : SettledHour) → Settled hour.header (pay_by offer cost rows guaranteed row_offers hour.header) hour.book.now.table next.book.now.table → SettlesBy (rows_by offer cost rows guaranteed row_offers) hour next
 settles offer cost rows guaranteed row_offers hour next settled given offers h rs c =
-    let same = subst (λ x. Settled x (pay_by offer cost rows guaranteed row_offers x) hour.opened.book.now.table next.book.now.table) c.header settled in
-    record { table = settling_settles offer cost rows guaranteed row_offers given offers h rs hour.opened.book.now.table next.book.now.table same c.table }
+    let same = subst (λ x. Settled x (pay_by offer cost rows guaranteed row_offers x) hour.book.now.table next.book.now.table) c.header settled in
+    record { table = settling_settles offer cost rows guaranteed row_offers given offers h rs hour.book.now.table next.book.now.table same c.table }

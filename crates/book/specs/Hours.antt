@@ -83,8 +83,8 @@ pub record IsOpen (given : Header) (h : List Entry) (hour : OpenHour) : Type 0 w
   pub table : OpenTable h hour.book.now.table
 
 pub record IsClosed (given : Header) (offers : Offers) (h : List Entry) (rs : List Reading) (hour : ClosedHour) : Type 0 where
-  pub header : hour.opened.header ≡ given
-  pub table : ClosedTable offers h rs hour.opened.book.now.table
+  pub header : hour.header ≡ given
+  pub table : ClosedTable offers h rs hour.book.now.table
 
 pub record IsSettled (header : Header) (offers : Offers) (rows : PriceRows) (h : List Entry) (rs : List Reading) (hour : SettledHour) : Type 0 where
   pub table : SettledTable header offers rows h rs hour.book.now.table

@@ -72,7 +72,7 @@ HourOf header s hour = ⊥
 -- an open or a closed hour borrows the book of this name
 abbrev pub Borrows : GName → Hour → Type 0
 Borrows name (OpenAt hour) = hour.book.ghost_name ≡ name
-Borrows name (ClosedAt hour) = hour.opened.book.ghost_name ≡ name
+Borrows name (ClosedAt hour) = hour.book.ghost_name ≡ name
 Borrows name (SettledAt hour) = Unit {0}
 
 -- one call is made: by whatever calls the hour stood for, it is told what follows from them, and the next hour stands for

@@ -62,19 +62,19 @@ pub record EntriesTaken (entries : List Entry) (before after_all : Answers) (hou
 
 -- a closed hour takes a reading
 pub record ReadingTaken (reading : Reading) (result : Result ℕ BookRefusal) (hour next : ClosedHour) : Type 0 where
-  pub answer : result ≡ reading_answer reading hour.opened.book.now.table
-  pub after : next.opened.book.now.table ≡ after_reading reading hour.opened.book.now.table
-  pub header : next.opened.header ≡ hour.opened.header
-  pub book : next.opened.book.ghost_name ≡ hour.opened.book.ghost_name
+  pub answer : result ≡ reading_answer reading hour.book.now.table
+  pub after : next.book.now.table ≡ after_reading reading hour.book.now.table
+  pub header : next.header ≡ hour.header
+  pub book : next.book.ghost_name ≡ hour.book.ghost_name
   pub follows : (header : Header) (offers : Offers) (h : List Entry) (rs : List Reading) → IsClosed header offers h rs hour → result ≡ reading_answer_in (view_in h) reading
   pub stands : (header : Header) (offers : Offers) (h : List Entry) (rs : List Reading) → IsClosed header offers h rs hour → IsClosed header offers h (next_readings (view_in h) reading rs) next
 
 -- a closed hour takes a list of readings
 pub record ReadingsTaken (readings : List Reading) (before after_all : Answers) (hour next : ClosedHour) : Type 0 where
-  pub after : next.opened.book.now.table ≡ after_readings readings hour.opened.book.now.table
-  pub answered : ReadingsAnswered readings hour.opened.book.now.table before after_all
-  pub header : next.opened.header ≡ hour.opened.header
-  pub book : next.opened.book.ghost_name ≡ hour.opened.book.ghost_name
+  pub after : next.book.now.table ≡ after_readings readings hour.book.now.table
+  pub answered : ReadingsAnswered readings hour.book.now.table before after_all
+  pub header : next.header ≡ hour.header
+  pub book : next.book.ghost_name ≡ hour.book.ghost_name
   pub follows : (header : Header) (offers : Offers) (h : List Entry) (rs : List Reading) → IsClosed header offers h rs hour → ReadingsJudgedBy h readings before after_all
   pub stands : (header : Header) (offers : Offers) (h : List Entry) (rs : List Reading) → IsClosed header offers h rs hour → IsClosed header offers h (accepted_readings (view_in h) rs readings) next
 

@@ -77,7 +77,10 @@ impl<'b> OpenHour<'b> {
                 (Hour::Open(self), answer)
             }
             HourCall::Close { offers, guaranteed } => {
-                (Hour::Closed(self.close(offers, guaranteed)), CallAnswer::Done)
+                (
+                    Hour::Closed(self.close(offers, guaranteed)),
+                    CallAnswer::Done,
+                )
             }
             _ => (Hour::Open(self), CallAnswer::OutOfTurn),
         }

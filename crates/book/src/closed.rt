@@ -5,7 +5,7 @@ ghost use Rattle.settling.specs.Settled.{Settled};
 ghost use Rattle.book.specs.Hours.{rows_by};
 ghost use Rattle.book.specs.Taken.{ReadingTaken, ReadingsTaken, SettlesBy};
 
-use crate::open::OpenHour;
+use crate::book::Book;
 use crate::settled::SettledHour;
 use curves::{Curve, Offer};
 use settling::{Header, PriceRow, settle};
@@ -14,7 +14,8 @@ use table::{BookRefusal, GuaranteedReading, Reading, UnitReading};
 /// An hour whose commitments are split.
 #[derive(Drop)]
 pub struct ClosedHour<'b> {
-    pub(crate) opened: OpenHour<'b>,
+    pub(crate) book: &'b mut Book,
+    pub(crate) header: Header,
 }
 
 // The methods take a reading's parameters one by one: they are the public calls. That the header stays stands in the
@@ -22,17 +23,16 @@ pub struct ClosedHour<'b> {
 impl<'b> ClosedHour<'b> {
     /// The header by which the hour will be settled.
     pub fn header(&self) -> Header
-        ensures { result ≡ self.now.opened.header }
+        ensures { result ≡ self.now.header }
     {
-        self.opened.header
+        self.header
     }
 
     /// Takes a reading: answers the number of the row that it changed, or what turned it down.
     pub fn read(&mut self, reading: Reading) -> Result<u32, BookRefusal>
         ensures { ReadingTaken reading result self.old self.new }
     {
-        let hour = &mut self.opened;
-        hour.book.table.read(reading)
+        self.book.table.read(reading)
     }
 
     /// Takes a competitive unit's reading.
@@ -64,8 +64,7 @@ impl<'b> ClosedHour<'b> {
     pub fn read_all(&mut self, readings: &[Reading], answers: &mut [Result<u32, BookRefusal>])
         ensures { ReadingsTaken readings.now answers.old answers.new self.old self.new }
     {
-        let hour = &mut self.opened;
-        hour.book.table.read_all(readings, answers);
+        self.book.table.read_all(readings, answers);
     }
 
     // Writes every figure where the hour lies.
@@ -74,11 +73,10 @@ impl<'b> ClosedHour<'b> {
         rows: &[PriceRow<O, C>],
         offers: &[G],
     )
-        ensures settled { Settled self.old.opened.header (pay_by O.Curve.prices C.Curve.prices rows.now G.Curve.prices offers.now self.old.opened.header) self.old.opened.book.now.table self.new.opened.book.now.table }
-        ensures book { self.new.opened.book.ghost_name ≡ self.old.opened.book.ghost_name }
+        ensures settled { Settled self.old.header (pay_by O.Curve.prices C.Curve.prices rows.now G.Curve.prices offers.now self.old.header) self.old.book.now.table self.new.book.now.table }
+        ensures book { self.new.book.ghost_name ≡ self.old.book.ghost_name }
     {
-        let hour = &mut self.opened;
-        settle(&mut hour.book.table, &hour.header, rows, offers);
+        settle(&mut self.book.table, &self.header, rows, offers);
     }
 
     /// Settles the hour: writes every figure, by a price row for each competitive unit and an offer for each guaranteed
@@ -89,10 +87,10 @@ impl<'b> ClosedHour<'b> {
         offers: &[G],
     ) -> SettledHour<'b>
         ensures law { SettlesBy (rows_by O.Curve.prices C.Curve.prices rows.now G.Curve.prices offers.now) self.entry result }
-        ensures settled { Settled self.entry.opened.header (pay_by O.Curve.prices C.Curve.prices rows.now G.Curve.prices offers.now self.entry.opened.header) self.entry.opened.book.now.table result.book.now.table }
+        ensures settled { Settled self.entry.header (pay_by O.Curve.prices C.Curve.prices rows.now G.Curve.prices offers.now self.entry.header) self.entry.book.now.table result.book.now.table }
     {
         self.write_figures(rows, offers);
-        let book = self.opened.book;
+        let book = self.book;
         SettledHour { book }
     }
 }

@@ -145,12 +145,15 @@ impl<'b> OpenHour<'b> {
 
     /// Closes the hour: splits each plant's commitments over its units, by one offer for each.
     pub fn close<O: Offer, G: Offer>(self, offers: &[O], guaranteed: &[G]) -> ClosedHour<'b>
-        ensures closed { Closed O.Curve.prices offers.now G.Curve.prices guaranteed.now self.entry.book.now.table result.opened.book.now.table }
-        ensures header { result.opened.header ≡ self.entry.header }
-        ensures book { result.opened.book.ghost_name ≡ self.entry.book.ghost_name }
+        ensures closed { Closed O.Curve.prices offers.now G.Curve.prices guaranteed.now self.entry.book.now.table result.book.now.table }
+        ensures header { result.header ≡ self.entry.header }
+        ensures book { result.book.ghost_name ≡ self.entry.book.ghost_name }
         ensures stands { ClosesBy (offers_by O.Curve.prices offers.now G.Curve.prices guaranteed.now) self.entry result }
     {
         self.book.table.close(offers, guaranteed);
-        ClosedHour { opened: self }
+        ClosedHour {
+            book: self.book,
+            header: self.header,
+        }
     }
 }

@@ -1,5 +1,8 @@
 // Whole lists of calls, made in turn on a book. What they lead to depends on the accepted ones alone.
-ghost use Rattle.std.specs.Prelude.{◌≡◌, []};
+ghost use Rattle.std.specs.Prelude.{◌≡◌, [], ⊤};
+ghost use Rattle.std.specs.Borrow.{sem, follows_so};
+ghost use mathlib.Core.Option.{none};
+ghost use Rattle.book.specs.contracts.book.Book.{the_row};
 ghost use Rattle.settling.specs.Figures.{pay_by};
 ghost use Rattle.table.specs.ClosingLaw.{ClosingLaw};
 ghost use Rattle.table.specs.History.{Stands};
@@ -55,11 +58,11 @@ pub fn run_closed<'b, O: Offer, G: Offer>(
 ) -> ClosedHour<'b>
     ensures judged { EntriesJudged calls.now.entries.now entry_answers.old entry_answers.new }
     ensures read { ReadingsJudged calls.now.entries.now calls.now.readings.now reading_answers.old reading_answers.new }
-    ensures law { ClosingLaw O.Curve.prices calls.now.offers.now G.Curve.prices calls.now.guaranteed.now (entered calls.now.entries.now) result.opened.book.now.table }
-    ensures stands { Stands (entered calls.now.entries.now) result.opened.book.now.table }
-    ensures metered { Metered (metered calls.now.entries.now calls.now.readings.now) result.opened.book.now.table }
-    ensures header { result.opened.header ≡ header }
-    ensures book { result.opened.book.ghost_name ≡ book.entry.ghost_name }
+    ensures law { ClosingLaw O.Curve.prices calls.now.offers.now G.Curve.prices calls.now.guaranteed.now (entered calls.now.entries.now) result.book.now.table }
+    ensures stands { Stands (entered calls.now.entries.now) result.book.now.table }
+    ensures metered { Metered (metered calls.now.entries.now calls.now.readings.now) result.book.now.table }
+    ensures header { result.header ≡ header }
+    ensures book { result.book.ghost_name ≡ book.entry.ghost_name }
 {
     let open = run_open(book, header, calls.entries, entry_answers);
     let mut hour = open.close(calls.offers, calls.guaranteed);
@@ -82,8 +85,10 @@ pub fn run_settled<'b, O: Offer, G: Offer, P: Offer, C: Curve, H: Offer>(
     ensures read { ReadingsJudged calls.now.entries.now calls.now.readings.now reading_answers.old reading_answers.new }
     ensures law { SettledLaw O.Curve.prices calls.now.offers.now G.Curve.prices calls.now.guaranteed.now header (pay_by P.Curve.prices C.Curve.prices rows.now H.Curve.prices offers.now header) (entered calls.now.entries.now) (metered calls.now.entries.now calls.now.readings.now) result.book.now.table }
     ensures rows { RowsOf (entered calls.now.entries.now) result.book.now.table }
+    ensures* book { sem 𝓛 (follows_so the_row the_row book.entry.ghost_name none (λ _ _. ⊤) (λ v. v ≡ result.book.now)) }
     ensures only { OnlyFigures O.Curve.prices calls.now.offers.now G.Curve.prices calls.now.guaranteed.now header (pay_by P.Curve.prices C.Curve.prices rows.now H.Curve.prices offers.now header) (entered calls.now.entries.now) (metered calls.now.entries.now calls.now.readings.now) result.book.now.table }
 {
-    let hour = run_closed(book, header, calls, entry_answers, reading_answers);
-    hour.settle(rows, offers)
+    let mut hour = run_closed(book, header, calls, entry_answers, reading_answers);
+    hour.write_figures(rows, offers);
+    SettledHour { book }
 }
