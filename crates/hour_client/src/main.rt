@@ -2,6 +2,7 @@
 #![tactic(auto)]
 
 mod sale;
+mod sales;
 
 use book::{Book, Header};
 
