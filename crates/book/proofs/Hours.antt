@@ -41,10 +41,9 @@ use Rattle.table.specs.declared.refusals.BookRefusal.{BookRefusal}
 use Rattle.table.specs.declared.refusals.UnitRefusal.{UnitRefusal}
 use Rattle.table.specs.declared.refusals.UnitRefusal.TheVariants.{Book, Rows}
 use Rattle.book.proofs.Only.{only_figures}
-use Rattle.book.proofs.Runs.{settled_rows}
 use Rattle.book.proofs.Settles.{settled_law}
 use Rattle.book.specs.Hours.{Prices, Offers, offers_by, PriceRows, row_by, rows_by, pay_in, ClosingLawBy, OpenTable, ClosedTable, SettledTable}
-use Rattle.book.specs.Law.{EntriesJudgedFrom, ReadingsJudgedBy}
+use Rattle.book.specs.Law.{EntriesJudgedFrom, ReadingsJudgedBy, RowsOf}
 use Rattle.book.specs.Taken.{priced_answer_in, next_priced, EntryTaken, PricedTaken, EntriesTaken, ReadingTaken, ReadingsTaken, ClosesBy, SettlesBy}
 use Rattle.book.specs.declared.closed.ClosedHour.{ClosedHour}
 use Rattle.book.specs.declared.open.OpenHour.{OpenHour}
@@ -203,6 +202,15 @@ module _ (header : Header) (pay : Pay) (t after : Table) (settled : Settled head
     guaranteed = λ i lt. settled.guaranteed.same.readings i ∙ m.guaranteed i lt;
     uses = λ i lt. use_kept i ∙ m.uses i lt;
   }
+
+-- settling adds no row and drops none
+pub settled_rows : (header : Header) (pay : Pay) (h : List Entry) (t after : Table) → Stands h t → Settled header pay t after → RowsOf h after
+settled_rows header pay h t after s settled = record {
+  plants = ap (λ (x : Table). x.plants.count) settled.rest ∙ s.plants.counted;
+  competitive = settled.competitive.same.count ∙ s.competitive.count;
+  guaranteed = settled.guaranteed.same.count ∙ s.guaranteed.count;
+  buyers = ap (λ (x : Table). x.buyers.count) settled.rest ∙ s.buyers.counted;
+}
 
 pub settling_settles : {O C G : Type 0} (offer : O → Prices) (cost : C → Prices) (rows : List (PriceRow O C)) (guaranteed : G → Prices) (row_offers : List G) (header : Header) (offers : Offers) (h : List Entry) (rs : List Reading) (t after : Table) → Settled header (pay_by offer cost rows guaranteed row_offers header) t after → ClosedTable offers h rs t → SettledTable header offers (rows_by offer cost rows guaranteed row_offers) h rs after
 settling_settles offer cost rows guaranteed row_offers header offers h rs t after settled c =

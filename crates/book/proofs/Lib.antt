@@ -1,5 +1,4 @@
 pub mod Settles
 pub mod Only
-pub mod Runs
 pub mod Hours
 pub mod States

@@ -1,12 +1,11 @@
 // Whole lists of calls, made in turn on a book. What they lead to depends on the accepted ones alone.
-ghost use Rattle.std.specs.Prelude.{◌≡◌, [], ⊤};
+ghost use Rattle.std.specs.Prelude.{◌≡◌, ⊤};
 ghost use Rattle.std.specs.Borrow.{sem, follows_so};
 ghost use mathlib.Core.Option.{none};
 ghost use Rattle.book.specs.contracts.book.Book.{the_row};
 ghost use Rattle.settling.specs.Figures.{pay_by};
 ghost use Rattle.table.specs.ClosingLaw.{ClosingLaw};
-ghost use Rattle.table.specs.History.{Stands};
-ghost use Rattle.table.specs.Metered.{Metered};
+ghost use Rattle.book.specs.Hours.{offers_by, rows_by, IsOpen, IsClosed, IsSettled};
 ghost use Rattle.book.specs.Law.{entered, metered, EntriesJudged, ReadingsJudged, RowsOf, SettledLaw, OnlyFigures};
 
 use crate::book::Book;
@@ -29,7 +28,7 @@ pub struct Calls<'c, O, G> {
 // Of the runs each takes what its state needs, so their first parameters are the same, and the first takes its entries and
 // their answers one by one as `enter_all` does: they are public calls. Each says `EntriesJudged` of its own entries.
 /// Opens an empty hour, whatever the book held, and takes entries in turn. The answers are written down as far as there
-/// is room.
+/// is room. When the hour is let go, the book holds what it held.
 pub fn run_open<'b>(
     book: &'b mut Book,
     header: Header,
@@ -37,9 +36,7 @@ pub fn run_open<'b>(
     answers: &mut [Result<u32, BookRefusal>],
 ) -> OpenHour<'b>
     ensures judged { EntriesJudged entries.now answers.old answers.new }
-    ensures stands { Stands (entered entries.now) result.book.now.table }
-    ensures unread { Metered [] result.book.now.table }
-    ensures header { result.header ≡ header }
+    ensures stands { IsOpen header (entered entries.now) result }
     ensures book { result.book.ghost_name ≡ book.entry.ghost_name }
 {
     let mut hour = book.open(header);
@@ -48,7 +45,7 @@ pub fn run_open<'b>(
 }
 
 /// Opens an empty hour, takes entries in turn, closes, and takes readings in turn. The law of a closed hour then holds,
-/// by the accepted entries alone.
+/// by the accepted entries alone. When the hour is let go, the book holds what it held.
 pub fn run_closed<'b, O: Offer, G: Offer>(
     book: &'b mut Book,
     header: Header,
@@ -59,9 +56,7 @@ pub fn run_closed<'b, O: Offer, G: Offer>(
     ensures judged { EntriesJudged calls.now.entries.now entry_answers.old entry_answers.new }
     ensures read { ReadingsJudged calls.now.entries.now calls.now.readings.now reading_answers.old reading_answers.new }
     ensures law { ClosingLaw O.Curve.prices calls.now.offers.now G.Curve.prices calls.now.guaranteed.now (entered calls.now.entries.now) result.book.now.table }
-    ensures stands { Stands (entered calls.now.entries.now) result.book.now.table }
-    ensures metered { Metered (metered calls.now.entries.now calls.now.readings.now) result.book.now.table }
-    ensures header { result.header ≡ header }
+    ensures stands { IsClosed header (offers_by O.Curve.prices calls.now.offers.now G.Curve.prices calls.now.guaranteed.now) (entered calls.now.entries.now) (metered calls.now.entries.now calls.now.readings.now) result }
     ensures book { result.book.ghost_name ≡ book.entry.ghost_name }
 {
     let open = run_open(book, header, calls.entries, entry_answers);
@@ -71,7 +66,7 @@ pub fn run_closed<'b, O: Offer, G: Offer>(
 }
 
 /// Opens an empty hour, takes entries in turn, closes, takes readings in turn, and settles. The law of a settled hour then
-/// holds, by the accepted calls alone.
+/// holds, by the accepted calls alone. When the hour is let go, the book holds what it held.
 pub fn run_settled<'b, O: Offer, G: Offer, P: Offer, C: Curve, H: Offer>(
     book: &'b mut Book,
     header: Header,
@@ -85,8 +80,9 @@ pub fn run_settled<'b, O: Offer, G: Offer, P: Offer, C: Curve, H: Offer>(
     ensures read { ReadingsJudged calls.now.entries.now calls.now.readings.now reading_answers.old reading_answers.new }
     ensures law { SettledLaw O.Curve.prices calls.now.offers.now G.Curve.prices calls.now.guaranteed.now header (pay_by P.Curve.prices C.Curve.prices rows.now H.Curve.prices offers.now header) (entered calls.now.entries.now) (metered calls.now.entries.now calls.now.readings.now) result.book.now.table }
     ensures rows { RowsOf (entered calls.now.entries.now) result.book.now.table }
-    ensures* book { sem 𝓛 (follows_so the_row the_row book.entry.ghost_name none (λ _ _. ⊤) (λ v. v ≡ result.book.now)) }
     ensures only { OnlyFigures O.Curve.prices calls.now.offers.now G.Curve.prices calls.now.guaranteed.now header (pay_by P.Curve.prices C.Curve.prices rows.now H.Curve.prices offers.now header) (entered calls.now.entries.now) (metered calls.now.entries.now calls.now.readings.now) result.book.now.table }
+    ensures stands { IsSettled header (offers_by O.Curve.prices calls.now.offers.now G.Curve.prices calls.now.guaranteed.now) (rows_by P.Curve.prices C.Curve.prices rows.now H.Curve.prices offers.now) (entered calls.now.entries.now) (metered calls.now.entries.now calls.now.readings.now) result }
+    ensures* book { sem 𝓛 (follows_so the_row the_row book.entry.ghost_name none (λ _ _. ⊤) (λ v. v ≡ result.book.now)) }
 {
     let mut hour = run_closed(book, header, calls, entry_answers, reading_answers);
     hour.write_figures(rows, offers);

@@ -1,1 +1,2 @@
 pub mod Sales
+pub mod Lent

@@ -1,6 +1,7 @@
 // A client of the book: sells ahead, closes, reads, settles, and asks for the support cost.
 #![tactic(auto)]
 
+mod lent;
 mod sale;
 mod sales;
 

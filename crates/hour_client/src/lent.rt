@@ -1,0 +1,55 @@
+// What a book holds once its hour is let go: what the hour held.
+ghost use Rattle.std.specs.Prelude.{◌≡◌, []};
+ghost use Rattle.book.specs.Hours.{offers_by, OpenTable, ClosedTable};
+ghost use Rattle.book.specs.Law.{entered, metered, SettledLaw};
+ghost use Rattle.settling.specs.Figures.{pay_by};
+ghost use Rattle.table.specs.ClosingLaw.{ClosingLaw};
+ghost use Rattle.hour_client.specs.Lent.{Left, state_of};
+ghost use Rattle.book.specs.States.{call_by};
+
+use book::{Book, Calls, Entry, Header, Hour, PriceRow, Turn, run_calls, run_closed, run_settled};
+use curves::{Curve, Offer};
+
+/// Enters a list, and lets the hour go.
+pub(crate) fn entered(book: &mut Book, header: Header, entries: &[Entry])
+    ensures { OpenTable (entered entries.now) book.new.table }
+{
+    let mut hour = book.open(header);
+    hour.enter_all(entries, &mut []);
+}
+
+/// Makes the calls of a closed hour, and lets the hour go.
+pub(crate) fn closed<O: Offer, G: Offer>(book: &mut Book, header: Header, calls: &Calls<O, G>)
+    ensures { ClosingLaw O.Curve.prices calls.now.offers.now G.Curve.prices calls.now.guaranteed.now (entered calls.now.entries.now) book.new.table }
+{
+    let _hour = run_closed(book, header, calls, &mut [], &mut []);
+}
+
+/// Makes the calls of a settled hour, and lets the hour go.
+pub(crate) fn settled<O: Offer, G: Offer, P: Offer, C: Curve, H: Offer>(
+    book: &mut Book,
+    header: Header,
+    calls: &Calls<O, G>,
+    rows: &[PriceRow<P, C>],
+    offers: &[H],
+)
+    ensures { SettledLaw O.Curve.prices calls.now.offers.now G.Curve.prices calls.now.guaranteed.now header (pay_by P.Curve.prices C.Curve.prices rows.now H.Curve.prices offers.now header) (entered calls.now.entries.now) (metered calls.now.entries.now calls.now.readings.now) book.new.table }
+{
+    let hour = run_settled(book, header, calls, &mut [], &mut [], rows, offers);
+    hour.release();
+}
+
+/// Makes a list of calls, and lets the hour go.
+pub(crate) fn made<O: Offer, G: Offer, P: Offer, C: Curve, H: Offer>(
+    book: &mut Book,
+    header: Header,
+    turns: &mut [Turn<O, G, P, C, H>],
+)
+    ensures { Left header (state_of (call_by O.Curve.prices G.Curve.prices P.Curve.prices C.Curve.prices H.Curve.prices) turns.old) book.new.table }
+{
+    match run_calls(book, header, turns) {
+        Hour::Open(hour) => {}
+        Hour::Closed(hour) => {}
+        Hour::Settled(hour) => hour.release(),
+    }
+}
