@@ -1,9 +1,6 @@
 // What a book holds once its hour is let go: what the hour held.
-ghost use Rattle.std.specs.Prelude.{◌≡◌, []};
-ghost use Rattle.book.specs.Hours.{offers_by, OpenTable, ClosedTable};
-ghost use Rattle.book.specs.Law.{entered, metered, SettledLaw};
-ghost use Rattle.settling.specs.Figures.{pay_by};
-ghost use Rattle.table.specs.ClosingLaw.{ClosingLaw};
+ghost use Rattle.book.specs.Hours.{offers_by, rows_by, OpenTable, ClosedTable, SettledTable};
+ghost use Rattle.book.specs.Law.{entered, metered};
 ghost use Rattle.hour_client.specs.Lent.{Left, state_of};
 ghost use Rattle.book.specs.States.{call_by};
 
@@ -20,7 +17,7 @@ pub(crate) fn entered(book: &mut Book, header: Header, entries: &[Entry])
 
 /// Makes the calls of a closed hour, and lets the hour go.
 pub(crate) fn closed<O: Offer, G: Offer>(book: &mut Book, header: Header, calls: &Calls<O, G>)
-    ensures { ClosingLaw O.Curve.prices calls.now.offers.now G.Curve.prices calls.now.guaranteed.now (entered calls.now.entries.now) book.new.table }
+    ensures { ClosedTable (offers_by O.Curve.prices calls.now.offers.now G.Curve.prices calls.now.guaranteed.now) (entered calls.now.entries.now) (metered calls.now.entries.now calls.now.readings.now) book.new.table }
 {
     let _hour = run_closed(book, header, calls, &mut [], &mut []);
 }
@@ -33,7 +30,7 @@ pub(crate) fn settled<O: Offer, G: Offer, P: Offer, C: Curve, H: Offer>(
     rows: &[PriceRow<P, C>],
     offers: &[H],
 )
-    ensures { SettledLaw O.Curve.prices calls.now.offers.now G.Curve.prices calls.now.guaranteed.now header (pay_by P.Curve.prices C.Curve.prices rows.now H.Curve.prices offers.now header) (entered calls.now.entries.now) (metered calls.now.entries.now calls.now.readings.now) book.new.table }
+    ensures { SettledTable header (offers_by O.Curve.prices calls.now.offers.now G.Curve.prices calls.now.guaranteed.now) (rows_by P.Curve.prices C.Curve.prices rows.now H.Curve.prices offers.now) (entered calls.now.entries.now) (metered calls.now.entries.now calls.now.readings.now) book.new.table }
 {
     let hour = run_settled(book, header, calls, &mut [], &mut [], rows, offers);
     hour.release();

@@ -6,6 +6,7 @@ use book::{Book, Entry, Header, PriceRow, Reading, SettledHour};
 use curves::{Curve, CurveRefusal, Offer};
 
 /// A sale of one plant: what is entered after its unit, and what the hour is closed, read and settled by.
+#[derive(Clone, Copy)]
 pub(crate) struct Sale<'s, O, G, P, C, H> {
     pub(crate) entries: &'s [Entry],
     pub(crate) offers: &'s [O],
