@@ -45,6 +45,16 @@ pub struct Turn<'c, O, G, P, C, H> {
     pub answer: Option<CallAnswer>,
 }
 
+impl<'c, O, G, P, C, H> Turn<'c, O, G, P, C, H> {
+    /// A call that is to be made.
+    pub fn new(call: HourCall<'c, O, G, P, C, H>) -> Turn<'c, O, G, P, C, H>
+        ensures call { result.call ≡ call.entry }
+        ensures answer { result.answer ≡ None }
+    {
+        Turn { call, answer: None }
+    }
+}
+
 /// An hour in the state that its calls have led to.
 #[derive(Drop)]
 pub enum Hour<'b> {

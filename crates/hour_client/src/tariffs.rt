@@ -59,9 +59,8 @@ pub(crate) fn let_go(book: &mut Book, header: Header) {
         rows: &[ROW],
         offers: &NO_OFFERS,
     };
-    let turn = |call| Turn { call, answer: None };
     entered(book, header, &COMMITMENT);
     closed(book, header, &calls);
     settled(book, header, &calls, &[ROW], &NO_OFFERS);
-    made(book, header, &mut [turn(close), turn(settle)]);
+    made(book, header, &mut [Turn::new(close), Turn::new(settle)]);
 }

@@ -1,26 +1,16 @@
 // One plant with one unit sells 50 kWh to one buyer.
+use anyhow::bail;
 use book::{
-    Book, BookRefusal, BuyerFigures, Calls, Entry, Header, HourFigures, PlantFigures, PriceRow,
-    Reading, SettledHour, UnitFigures, UnitReading, run_settled,
+    Book, BookRefusal, BuyerFigures, Entry, Header, Hour, HourCall, HourFigures, PlantFigures,
+    PriceRow, Reading, SettledHour, Turn, UnitFigures, UnitReading, run_calls,
 };
 use curves::{CurveRefusal, Step, SteppedCost, SteppedOffer, Tariff};
 use settlement::{CompetitiveEnergies, Control};
 use std::fmt;
 
-const ENTRIES: [Entry; 4] = [
-    Entry::AddPlant { loss: 0 },
-    Entry::AddBuyer { loss: 0 },
-    Entry::AddCompetitive {
-        plant: 1,
-        declared: 40,
-        internal: 0,
-    },
-    Entry::Commit {
-        plant: 1,
-        buyer: 1,
-        volume: 50,
-    },
-];
+type UnitRow = PriceRow<SteppedOffer, SteppedCost>;
+
+type WorkedTurn<'c> = Turn<'c, SteppedOffer, Tariff, SteppedOffer, SteppedCost, Tariff>;
 
 const NO_OFFERS: [Tariff; 0] = [];
 
@@ -42,7 +32,8 @@ impl fmt::Display for Figures {
     }
 }
 
-fn readings() -> [Reading; 2] {
+// The unit's reading.
+fn reading() -> UnitReading {
     let energies = CompetitiveEnergies {
         net: 130,
         accepted: 110,
@@ -53,22 +44,15 @@ fn readings() -> [Reading; 2] {
         p_act: 30,
         ..Control::default()
     };
-    let reading = UnitReading {
+    UnitReading {
         energies,
         control,
         ..UnitReading::default()
-    };
-    [
-        Reading::Competitive { unit: 1, reading },
-        Reading::Use {
-            buyer: 1,
-            used: 200,
-        },
-    ]
+    }
 }
 
 // The unit's offer and its cost curve.
-fn prices() -> Result<PriceRow<SteppedOffer, SteppedCost>, CurveRefusal> {
+fn unit_row() -> Result<UnitRow, CurveRefusal> {
     let first = Step {
         width: 100,
         price: 300,
@@ -81,35 +65,50 @@ fn prices() -> Result<PriceRow<SteppedOffer, SteppedCost>, CurveRefusal> {
         width: 100,
         price: 350,
     };
-    Ok(PriceRow {
+    Ok(UnitRow {
         offer: SteppedOffer::new(&[first, second])?,
         cost: SteppedCost::new(&[cost])?,
     })
 }
 
-// Opens the hour, makes its calls and settles it.
-fn settled<'b>(
-    book: &'b mut Book,
-    header: Header,
-    prices: PriceRow<SteppedOffer, SteppedCost>,
-) -> SettledHour<'b> {
-    let calls = Calls {
-        entries: &ENTRIES,
-        offers: &[prices.offer],
-        guaranteed: &NO_OFFERS,
-        readings: &readings(),
+// The calls of the hour in turn: its entries, closing, its readings, settling.
+fn turns<'c>(offers: &'c [SteppedOffer], rows: &'c [UnitRow]) -> [WorkedTurn<'c>; 8] {
+    let unit = Entry::AddCompetitive {
+        plant: 1,
+        declared: 40,
+        internal: 0,
     };
-    let mut entry_answers = [Ok(0); 4];
-    let mut reading_answers = [Ok(0); 2];
-    run_settled(
-        book,
-        header,
-        &calls,
-        &mut entry_answers,
-        &mut reading_answers,
-        &[prices],
-        &NO_OFFERS,
-    )
+    let commitment = Entry::Commit {
+        plant: 1,
+        buyer: 1,
+        volume: 50,
+    };
+    let close = HourCall::Close {
+        offers,
+        guaranteed: &NO_OFFERS,
+    };
+    let reading = Reading::Competitive {
+        unit: 1,
+        reading: reading(),
+    };
+    let used = Reading::Use {
+        buyer: 1,
+        used: 200,
+    };
+    let settle = HourCall::Settle {
+        rows,
+        offers: &NO_OFFERS,
+    };
+    [
+        Turn::new(HourCall::Enter(Entry::AddPlant { loss: 0 })),
+        Turn::new(HourCall::Enter(Entry::AddBuyer { loss: 0 })),
+        Turn::new(HourCall::Enter(unit)),
+        Turn::new(HourCall::Enter(commitment)),
+        Turn::new(close),
+        Turn::new(HourCall::Read(reading)),
+        Turn::new(HourCall::Read(used)),
+        Turn::new(settle),
+    ]
 }
 
 fn figures_of(hour: &SettledHour) -> Result<Figures, BookRefusal> {
@@ -124,8 +123,13 @@ fn figures_of(hour: &SettledHour) -> Result<Figures, BookRefusal> {
 /// The figures of the worked hour.
 pub(crate) fn worked_figures() -> anyhow::Result<Figures> {
     let header = Header::new(1_000, 10_000, 200, 0, 0)?;
+    let row = unit_row()?;
+    let offers = [row.offer];
+    let rows = [row];
     let mut book = Book::new();
-    let hour = settled(&mut book, header, prices()?);
+    let Hour::Settled(hour) = run_calls(&mut book, header, &mut turns(&offers, &rows)) else {
+        bail!("the hour is not settled");
+    };
     let figures = figures_of(&hour);
     hour.release();
     Ok(figures?)
