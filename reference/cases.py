@@ -4,7 +4,7 @@
     python3 reference/cases.py > crates/hour_cases/stdout
 
 Fixed cases come first: calls that are turned down, full tables, and books that are used again. Then come pseudo-random
-hours. The program draws the same hours, with the same numbers in the same order. With the argument `branches` this
+hours, and lists of calls in whatever order. The program draws the same, with the same numbers in the same order. With the argument `branches` this
 prints how often each branch of the rules occurs in the pseudo-random hours.
 """
 import os
@@ -20,6 +20,7 @@ from hour import (COMPETITIVE, GUARANTEED, MOST_KWH, MOST_PRICE, AddBuyer, AddCo
                   SteppedOffer, TakeBack, Tariff)
 
 HOURS = 200
+MIXED_HOURS = 30
 
 # The fields of a reading by kind, and the most that a field of a kind may be.
 COMPETITIVE_FIELDS = ("energy half part part energy mark energy part part part part part day minute "
@@ -32,6 +33,8 @@ MOST = dict(energy=MOST_KWH, half=MOST_KWH, part=MOST_KWH, mark=1, day=400, minu
 # Text ---------------------------------------------------------------------------------------------------------------
 
 def answer_line(answer):
+    if isinstance(answer, str):
+        return f"{answer}\n"
     return f"R {answer.number}\n" if isinstance(answer, Refused) else f"{answer.number}\n"
 
 
@@ -509,6 +512,27 @@ def drawn_hour(number):
                 rows2=rows2)
 
 
+def mixed_calls(number):
+    """The calls of a drawn hour with others out of turn among them, and the state that they lead to. Every third list ends
+    before settling, and every third before closing."""
+    case = drawn_hour(number)
+    entries, readings = case["entries"], case["readings"]
+    close = hour.Close(case["offers1"], case["offers2"])
+    settle = hour.Settle(case["rows1"], case["rows2"])
+    opened = readings[:1] + entries + [settle]
+    closed = [close] + entries[:1] + [hour.Close([], [])] + readings
+    settled = [settle] + readings[:1] + [hour.Settle([], []), close] + entries[:1]
+    state = ("settled", "closed", "open")[number % 3]
+    return opened + {"open": [], "closed": closed, "settled": closed + settled}[state], state
+
+
+def mixed_text(number):
+    calls, state = mixed_calls(number)
+    answers, figures = hour.make_calls(drawn_hour(number)["header"], calls)
+    listing = hour.listing(figures) if figures else ""
+    return f"mixed hour {number}\n{answer_lines(answers)}{state}\n{listing}"
+
+
 # Branches -----------------------------------------------------------------------------------------------------------
 
 def count_calls(counts, case, answers):
@@ -620,6 +644,8 @@ def main():
     print(fixed_cases(), end="")
     for number in range(1, HOURS + 1):
         print(hour_text(f"hour {number}", drawn_hour(number)), end="")
+    for number in range(1, MIXED_HOURS + 1):
+        print(mixed_text(number), end="")
 
 
 if __name__ == "__main__":

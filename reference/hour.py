@@ -6,7 +6,8 @@ docs/listing.md, and shares no code with the engine.
 
 Every figure is derived from the list of accepted calls; nothing is kept between calls but that list.
 
-`settle_hour` judges the calls of one hour and gives the answers and the figures; `listing` writes the figures as text.
+`settle_hour` judges the calls of one hour and gives the answers and the figures; `make_calls` takes any list of calls;
+`listing` writes the figures as text.
 Run without arguments it prints the listing of the worked hour.
 """
 from dataclasses import dataclass
@@ -249,6 +250,18 @@ class ReadGuaranteed:
 class ReadBuyer:
     buyer: int
     use: int = 0
+
+
+@dataclass(frozen=True)
+class Close:
+    offers1: list
+    offers2: list
+
+
+@dataclass(frozen=True)
+class Settle:
+    rows1: list
+    rows2: list
 
 
 # What the accepted entries say --------------------------------------------------------------------------------------
@@ -672,6 +685,37 @@ def settle_hour(header, entries, offers1, offers2, readings, rows1, rows2):
     reading_answers, accepted = judge_readings(readings, calls)
     figures = settle_closed(header, calls, closed, accepted, rows1, rows2)
     return entry_answers + reading_answers, figures
+
+
+# Any list of calls --------------------------------------------------------------------------------------------------
+
+DONE, OUT_OF_TURN = "done", "out of turn"
+
+
+def first_place(calls, kind, start):
+    """The place of the first call of a kind from a place on, or the list's end."""
+    return next((at for at in range(start, len(calls)) if isinstance(calls[at], kind)), len(calls))
+
+
+def make_calls(header, calls):
+    """Any list of calls on an empty hour: what each is told, and the figures where the hour is settled, else None.
+
+    The first closing parts the entries before it from the readings behind it, and the first settling behind it ends
+    them. Every other call is out of turn.
+    """
+    closing = first_place(calls, Close, 0)
+    settling = first_place(calls, Settle, closing + 1)
+    reads = (ReadCompetitive, ReadGuaranteed, ReadBuyer)
+    readings = [at for at in range(closing + 1, settling) if isinstance(calls[at], reads)]
+    entries = [at for at in range(closing) if not isinstance(calls[at], (*reads, Settle))]
+    entry_answers, entered = judge_entries([calls[at] for at in entries])
+    reading_answers, read = judge_readings([calls[at] for at in readings], entered)
+    told = dict(zip(entries + readings, entry_answers + reading_answers)) | {closing: DONE, settling: DONE}
+    figures = None
+    if settling < len(calls):
+        closed = close_hour(entered, calls[closing].offers1, calls[closing].offers2)
+        figures = settle_closed(header, entered, closed, read, calls[settling].rows1, calls[settling].rows2)
+    return [told.get(at, OUT_OF_TURN) for at in range(len(calls))], figures
 
 
 # Listing ------------------------------------------------------------------------------------------------------------

@@ -10,9 +10,9 @@ sys.dont_write_bytecode = True
 sys.path.insert(0, os.path.dirname(os.path.abspath(__file__)))
 
 import hour
-from hour import (Accepted, AddBuyer, AddCompetitive, AddGuaranteed, AddPlant, Commit, Correct, Header, PriceRow,
-                  PutAside, ReadBuyer, ReadCompetitive, ReadGuaranteed, Refused, SteppedCost, SteppedOffer, TakeBack,
-                  Tariff, settle_hour)
+from hour import (DONE, OUT_OF_TURN, Accepted, AddBuyer, AddCompetitive, AddGuaranteed, AddPlant, Close, Commit, Correct,
+                  Header, PriceRow, PutAside, ReadBuyer, ReadCompetitive, ReadGuaranteed, Refused, Settle, SteppedCost,
+                  SteppedOffer, TakeBack, Tariff, make_calls, settle_hour)
 
 HEADER = Header(1_000, 10_000, 200, 0, 0)
 OFFER = SteppedOffer([(100, 300), (100, 500)])
@@ -355,6 +355,21 @@ def some_hour(seed):
         offers2=[Tariff(400)] * pick.randint(2, 9), readings=readings,
         rows1=[PriceRow(SteppedOffer(steps(True)), SteppedCost(steps(False))) for _ in range(pick.randint(2, 9))],
         rows2=[Tariff(400)] * pick.randint(2, 9))
+
+
+class AnyCalls(unittest.TestCase):
+    def test_calls_out_of_turn(self):
+        close, settle = Close([], [Tariff(400)]), Settle([], [Tariff(400)])
+        calls = [ReadBuyer(1, 5), AddPlant(0), Commit(1, 1, 50), settle, AddBuyer(0), Commit(1, 1, 50), close, AddPlant(0),
+                 close, ReadBuyer(1, 5), ReadBuyer(2, 6), ReadBuyer(1, 7), settle, settle, close, ReadBuyer(1, 8),
+                 AddBuyer(0)]
+        late, one, none, done = OUT_OF_TURN, Accepted(1), Refused(3), DONE
+        told, figures = make_calls(HEADER, calls)
+        self.assertEqual(told, [late, one, none, late, one, one, done, late, late, one, none, one, done, late, late, late,
+                                late])
+        self.assertEqual(figures.plants[1].run, 50)
+        self.assertEqual(make_calls(HEADER, calls[:12]), (told[:12], None))
+        self.assertEqual(make_calls(HEADER, calls[:6]), (told[:6], None))
 
 
 class SmallHours(unittest.TestCase):

@@ -5,8 +5,8 @@ use crate::source::Source;
 use curves::{Offer, SteppedOffer, Tariff};
 use std::alloc::Global;
 
-// Draws an hour with these kinds of guaranteed offers, at closing and at settling.
-fn drawn_plan<G: Offer + Drawn, S: Offer + Drawn>(
+/// Draws an hour with these kinds of guaranteed offers, at closing and at settling.
+pub(crate) fn drawn_plan<G: Offer + Drawn, S: Offer + Drawn>(
     heap: Global,
     number: u32,
 ) -> anyhow::Result<Plan<G, S>> {

@@ -1,4 +1,5 @@
-// Hours whose answers and figures a second calculation gives: calls that are turned down, and pseudo-random hours.
+// Hours whose answers and figures a second calculation gives: calls that are turned down, pseudo-random hours, and lists of
+// calls in whatever order.
 #![tactic(auto)]
 
 mod calls;
@@ -9,6 +10,7 @@ mod full_tables;
 mod limit_entries;
 mod limit_readings;
 mod makings;
+mod mixed_hours;
 mod reading_draws;
 mod report;
 mod row_draws;
@@ -20,12 +22,17 @@ use std::alloc::Global;
 
 const HOURS: u32 = 200;
 
+const MIXED_HOURS: u32 = 30;
+
 fn all_cases(heap: Global) -> anyhow::Result<String> {
     let mut cases = Cases::new(heap);
     cases.report.makings()?;
     cases.fixed_hours()?;
     for number in 1..=HOURS {
         cases.drawn_hour(number)?;
+    }
+    for number in 1..=MIXED_HOURS {
+        cases.mixed_hour(number)?;
     }
     Ok(cases.report.text)
 }

@@ -8,6 +8,7 @@ use Rattle.allocation.specs.Groups.{sum_of}
 use Rattle.reader.specs.Outcome.{read_on}
 use Rattle.settlement.specs.Payments.{cost_between}
 use Rattle.settlement.specs.Shares.{running_share}
+use Rattle.worked_hour.specs.Calls.{CallExamples}
 use Rattle.worked_hour.specs.Examples.{WorkedExamples}
 use Rattle.worked_hour.specs.File.{FileExamples}
 use Rattle.worked_hour.specs.Hour.{FullerHour}
@@ -183,3 +184,6 @@ file_examples = record {
   buyer_questions = refl;
   listing = refl;
 }
+
+pub call_examples : CallExamples
+call_examples = record { each_told = refl; opened = refl; closed = refl; read = refl; settled = refl }

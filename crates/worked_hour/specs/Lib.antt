@@ -3,3 +3,4 @@ pub mod Hour
 pub mod Refused
 pub mod Values
 pub mod File
+pub mod Calls

@@ -1,4 +1,5 @@
 // The worked examples, as statements that are computed on the definitions.
+ghost use Rattle.worked_hour.specs.Calls.{CallExamples};
 ghost use Rattle.worked_hour.specs.Examples.{WorkedExamples};
 ghost use Rattle.worked_hour.specs.File.{FileExamples};
 ghost use Rattle.worked_hour.specs.Hour.{FullerHour};
@@ -9,6 +10,7 @@ ghost use Rattle.worked_hour.specs.Values.{SmallExamples};
 pub(crate) fn worked_examples()
     ensures examples { WorkedExamples }
     ensures hour { FullerHour }
+    ensures calls { CallExamples }
     ensures refusals { RefusalTable }
     ensures small { SmallExamples }
     ensures file { FileExamples }
