@@ -1,10 +1,14 @@
 // What a book holds once its hour is let go: what the hour held.
-ghost use Rattle.book.specs.Hours.{offers_by, rows_by, OpenTable, ClosedTable, SettledTable};
+ghost use Rattle.std.specs.Prelude.{◌≡◌};
+ghost use Rattle.book.specs.Hours.{offers_by, rows_by, IsClosed, OpenTable, ClosedTable, SettledTable};
 ghost use Rattle.book.specs.Law.{entered, metered};
 ghost use Rattle.hour_client.specs.Lent.{Left, state_of};
 ghost use Rattle.book.specs.States.{call_by};
 
-use book::{Book, Calls, Entry, Header, Hour, PriceRow, Turn, run_calls, run_closed, run_settled};
+use book::{
+    Book, Calls, ClosedHour, Entry, Header, Hour, PriceRow, Turn, run_calls, run_closed,
+    run_settled,
+};
 use curves::{Curve, Offer};
 
 /// Enters a list, and lets the hour go.
@@ -15,14 +19,41 @@ pub(crate) fn entered(book: &mut Book, header: Header, entries: &[Entry])
     hour.enter_all(entries, &mut []);
 }
 
-/// Makes the calls of a closed hour, and lets the hour go.
+// Makes the calls of a closed hour one by one.
+fn close<'b, O: Offer, G: Offer>(
+    book: &'b mut Book,
+    header: Header,
+    calls: &Calls<O, G>,
+) -> ClosedHour<'b>
+    ensures stands { IsClosed header (offers_by O.Curve.prices calls.now.offers.now G.Curve.prices calls.now.guaranteed.now) (entered calls.now.entries.now) (metered calls.now.entries.now calls.now.readings.now) result }
+    ensures book { result.book.ghost_name ≡ book.entry.ghost_name }
+{
+    let mut open = book.open(header);
+    open.enter_all(calls.entries, &mut []);
+    let mut closed = open.close(calls.offers, calls.guaranteed);
+    closed.read_all(calls.readings, &mut []);
+    closed
+}
+
+/// Closes an hour by its calls, and lets it go.
+pub(crate) fn closed_by_calls<O: Offer, G: Offer>(
+    book: &mut Book,
+    header: Header,
+    calls: &Calls<O, G>,
+)
+    ensures { ClosedTable (offers_by O.Curve.prices calls.now.offers.now G.Curve.prices calls.now.guaranteed.now) (entered calls.now.entries.now) (metered calls.now.entries.now calls.now.readings.now) book.new.table }
+{
+    let _hour = close(book, header, calls);
+}
+
+/// Makes the list of calls of a closed hour, and lets the hour go.
 pub(crate) fn closed<O: Offer, G: Offer>(book: &mut Book, header: Header, calls: &Calls<O, G>)
     ensures { ClosedTable (offers_by O.Curve.prices calls.now.offers.now G.Curve.prices calls.now.guaranteed.now) (entered calls.now.entries.now) (metered calls.now.entries.now calls.now.readings.now) book.new.table }
 {
     let _hour = run_closed(book, header, calls, &mut [], &mut []);
 }
 
-/// Makes the calls of a settled hour, and lets the hour go.
+/// Makes the list of calls of a settled hour, and lets the hour go.
 pub(crate) fn settled<O: Offer, G: Offer, P: Offer, C: Curve, H: Offer>(
     book: &mut Book,
     header: Header,

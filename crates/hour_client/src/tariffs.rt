@@ -1,5 +1,5 @@
 // Sales by tariffs.
-use crate::lent::{closed, entered, made, settled};
+use crate::lent::{closed, closed_by_calls, entered, made, settled};
 use crate::sales::{Sale, sell};
 use book::{
     Book, BookRefusal, Calls, Entry, Header, HourCall, PlantFigures, PriceRow, Reading, Turn,
@@ -61,6 +61,7 @@ pub(crate) fn let_go(book: &mut Book, header: Header) {
     };
     entered(book, header, &COMMITMENT);
     closed(book, header, &calls);
+    closed_by_calls(book, header, &calls);
     settled(book, header, &calls, &[ROW], &NO_OFFERS);
     made(book, header, &mut [Turn::new(close), Turn::new(settle)]);
 }
