@@ -6,8 +6,9 @@ use Rattle.hourfile.specs.declared.faults.FileFault.{FileFault}
 use Rattle.reader.proofs.Ended.{outcome_done, outcome_short}
 use Rattle.reader.specs.Outcome.{outcome, end_of}
 use Rattle.reader.specs.Progress.{Made}
+use Rattle.reader.specs.Progress.Progress.{Settled as Done}
 use Rattle.reader.specs.Read.{FileRead}
-use Rattle.reader.specs.Reached.{BookHolds, IsSettled}
+use Rattle.reader.specs.Reached.{BookHolds}
 use Rattle.reader.specs.declared.reached.FileHour.{FileHour}
 use Rattle.reader.specs.declared.reached.Reached.{Reached}
 use Rattle.reader.specs.declared.reached.Reached.TheVariants.{Unopened, Open, Closed, Settled}
@@ -29,11 +30,11 @@ a_fault (Some f) fault is = ap fault_of is
     fault_of (Err e) = Some e
 
 -- a settled hour is the one that is listed
-settled_listed : (m : Made) (reached : Reached) (place : ℕ) (before after : List ℕ) (end : Result ℕ ListError) → IsSettled m reached → ReachedListed reached place before end after → EndsAs None reached place before end after
-settled_listed m (Unopened book) place before after end is listed = absurd is
-settled_listed m (Open hour) place before after end is listed = absurd is
-settled_listed m (Closed hour) place before after end is listed = absurd is
-settled_listed m (Settled hour) place before after end is listed = listed
+settled_listed : (m : Made) (book : Table) (reached : Reached) (place : ℕ) (before after : List ℕ) (end : Result ℕ ListError) → BookHolds book (Done m) reached → ReachedListed reached place before end after → EndsAs None reached place before end after
+settled_listed m book (Unopened b) place before after end is listed = absurd is
+settled_listed m book (Open hour) place before after end is listed = absurd is
+settled_listed m book (Closed hour) place before after end is listed = absurd is
+settled_listed m book (Settled hour) place before after end is listed = listed
 
 module _ (book : Table) (file before : List ℕ) (read : FileHour) (so : FileRead book (outcome file) read) (end : Result ℕ ListError) (after : List ℕ) where
   pub fault_listed : (fault : FileFault) → read.end ≡ Err fault → end ≡ Err (Fault fault) → after ≡ before → HourListed book file before (record { reached = read.reached; end = end }) after
@@ -49,7 +50,7 @@ module _ (book : Table) (file before : List ℕ) (read : FileHour) (so : FileRea
       let none = no_fault (outcome file).fault x (sym so.end ∙ is) in
       let (m, done) = outcome_done file none in
       let here : place ≡ length file = omega (arith, there, outcome_short file none) in
-      let settled = settled_listed m read.reached place before after end (subst (λ p. BookHolds book p read.reached) done so.holds) listed in
+      let settled = settled_listed m book read.reached place before after end (subst (λ p. BookHolds book p read.reached) done so.holds) listed in
       record {
         holds = so.holds;
         end = subst (λ o. EndsAs o read.reached (length file) before end after) (sym none) (subst (λ k. EndsAs None read.reached k before end after) here settled);

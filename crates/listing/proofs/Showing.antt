@@ -7,7 +7,7 @@ use Rattle.reader.specs.Outcome.{outcome}
 use Rattle.reader.specs.Progress.{Made}
 use Rattle.reader.specs.Progress.Progress.{Settled as Done}
 use Rattle.reader.specs.Read.{FileRead}
-use Rattle.reader.specs.Reached.{BookHolds, IsSettled}
+use Rattle.reader.specs.Reached.{BookHolds}
 use Rattle.reader.specs.declared.reached.FileHour.{FileHour}
 use Rattle.reader.specs.declared.reached.Reached.{Reached}
 use Rattle.reader.specs.declared.reached.Reached.TheVariants.{Unopened, Open, Closed, Settled}
@@ -20,11 +20,11 @@ on_ok P Q each (Ok x) holds = each x holds
 on_ok P Q each (Err e) holds = holds
 
 -- a settled hour is shown by its listing
-settled_shown : (m : Made) (reached : Reached) (place : ℕ) (text : List ℕ) → IsSettled m reached → HourShown reached place text → ShownFor None (Done m) text
-settled_shown m (Unopened book) place text holds shown = absurd holds
-settled_shown m (Open hour) place text holds shown = absurd holds
-settled_shown m (Closed hour) place text holds shown = absurd holds
-settled_shown m (Settled hour) place text holds shown = (hour.table.now, holds, shown)
+settled_shown : (m : Made) (book : Table) (reached : Reached) (place : ℕ) (text : List ℕ) → BookHolds book (Done m) reached → HourShown reached place text → ShownFor None (Done m) text
+settled_shown m book (Unopened b) place text is shown = absurd is
+settled_shown m book (Open hour) place text is shown = absurd is
+settled_shown m book (Closed hour) place text is shown = absurd is
+settled_shown m book (Settled hour) place text is shown = (hour.book.now.table, is.0, shown)
 
 module _ (book : Table) (file : List ℕ) (read : FileHour) (so : FileRead book (outcome file) read) (text : List ℕ) where
   pub shows_hour : (x : Unit) (place : ℕ) → read.end ≡ Ok x → HourShown read.reached place text → IsPrinted file text
@@ -32,7 +32,7 @@ module _ (book : Table) (file : List ℕ) (read : FileHour) (so : FileRead book 
       let none = no_fault (outcome file).fault x (sym so.end ∙ is) in
       let (m, done) = outcome_done file none in
       let holds = subst (λ p. BookHolds book p read.reached) done so.holds in
-      subst (λ o. ShownFor o (outcome file).progress text) (sym none) (subst (λ p. ShownFor None p text) (sym done) (settled_shown m read.reached place text holds shown))
+      subst (λ o. ShownFor o (outcome file).progress text) (sym none) (subst (λ p. ShownFor None p text) (sym done) (settled_shown m book read.reached place text holds shown))
 
   pub shows_fault : (fault : FileFault) → read.end ≡ Err fault → text ≡ fault_line fault → IsPrinted file text
   shows_fault fault is same =

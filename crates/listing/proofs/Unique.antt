@@ -3,7 +3,7 @@ use Rattle.std.proofs.Common.{◌≡◌, ℕ, zero, suc, ◌+◌, ◌-◌, ◌<�
 use Rattle.std.specs.List.{flat_map, range_with_len}
 use Rattle.std.specs.Option.{option_map}
 use Rattle.std.specs.Result.{result_ok}
-use Rattle.book.proofs.Runs.{settled_rows}
+use Rattle.book.proofs.Hours.{settled_rows}
 use Rattle.book.specs.Law.{SameFigures, RowsOf}
 use Rattle.book.specs.Questions.{lacks_row}
 use Rattle.table.specs.Texts.{hour_text}
@@ -36,7 +36,7 @@ row_same : {F : Type 0} (make : F → Row) (number room : ℕ) (e : BookRefusal)
 row_same make number room e n m x y counts figures = ap (λ k. row_by make number room e k x) counts ∙ ap (row_by make number room e m) figures
 
 rows_of : (m : Made) (t : Table) → SettledHolds m t → RowsOf m.entries t
-rows_of m t s = settled_rows _ _ m.entries s.closed t s.before.stands s.settling
+rows_of m t s = settled_rows _ _ m.entries s.closed t s.stands.stands s.settling
 
 module _ (m : Made) (t u : Table) (a : SettledHolds m t) (b : SettledHolds m u) where
   same : SameFigures m.entries t u

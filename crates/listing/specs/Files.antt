@@ -40,7 +40,7 @@ abbrev pub ReachedListed : Reached → ℕ → List ℕ → Result ℕ ListError
 ReachedListed (Unopened book) place before end after = (end ≡ Err (Fault (ended place))) × (after ≡ before)
 ReachedListed (Open hour) place before end after = (end ≡ Err (Fault (ended place))) × (after ≡ before)
 ReachedListed (Closed hour) place before end after = (end ≡ Err (Fault (ended place))) × (after ≡ before)
-ReachedListed (Settled hour) place before end after = IsListed (listing_of hour.table.now) place before end after
+ReachedListed (Settled hour) place before end after = IsListed (listing_of hour.book.now.table) place before end after
 
 -- a fault of the file is the answer, and nothing is written; without one the settled hour is listed
 abbrev pub EndsAs : Option FileFault → Reached → ℕ → List ℕ → Result ℕ ListError → List ℕ → Type 0
@@ -48,7 +48,7 @@ EndsAs (Some fault) reached place before end after = (end ≡ Err (Fault fault))
 EndsAs None (Unopened book) place before end after = ⊥
 EndsAs None (Open hour) place before end after = ⊥
 EndsAs None (Closed hour) place before end after = ⊥
-EndsAs None (Settled hour) place before end after = IsListed (listing_of hour.table.now) place before end after
+EndsAs None (Settled hour) place before end after = IsListed (listing_of hour.book.now.table) place before end after
 
 -- what the book holds then is the effect of exactly the records before the fault
 pub record HourListed (book : Table) (file before : List ℕ) (listed : Listed) (after : List ℕ) : Type 0 where

@@ -21,7 +21,7 @@ abbrev pub HourShown : Reached → ℕ → List ℕ → Type 0
 HourShown (Unopened book) place text = text ≡ fault_line (ended place)
 HourShown (Open hour) place text = text ≡ fault_line (ended place)
 HourShown (Closed hour) place text = text ≡ fault_line (ended place)
-HourShown (Settled hour) place text = text ≡ listing_of hour.table.now
+HourShown (Settled hour) place text = text ≡ listing_of hour.book.now.table
 
 -- a table with the figures of the hour that a file led to
 abbrev pub HourOf : Progress → Table → Type 0

@@ -39,7 +39,7 @@ impl fmt::Display for Row {
 impl Row {
     /// The row of a number, if there is one.
     pub(crate) fn of(hour: &SettledHour, kind: Kind, number: u32) -> Option<Row>
-        ensures { result ≡ row_in kind number hour.now.table.now }
+        ensures { result ≡ row_in kind number hour.now.book.now.table }
     {
         let row = match kind {
             Kind::Competitive => {

@@ -13,7 +13,7 @@ const MOST_ROWS: u32 = 128;
 
 // Writes the rows of a kind behind a text.
 fn write_rows(text: &mut String, hour: &SettledHour, kind: Kind) -> Result<(), AllocError>
-    ensures { IfOk result (λ _. string_bytes text.new ≡ string_bytes text.old ++ lines_of kind hour.now.table.now) }
+    ensures { IfOk result (λ _. string_bytes text.new ≡ string_bytes text.old ++ lines_of kind hour.now.book.now.table) }
 {
     for number in 1..=MOST_ROWS {
         let Some(row) = Row::of(hour, kind, number) else {
@@ -26,7 +26,7 @@ fn write_rows(text: &mut String, hour: &SettledHour, kind: Kind) -> Result<(), A
 
 /// The listing of a settled hour.
 pub fn listing(heap: Global, hour: &SettledHour) -> Result<String, AllocError>
-    ensures { IfOk result (λ text. string_bytes text ≡ listing_of hour.now.table.now) }
+    ensures { IfOk result (λ text. string_bytes text ≡ listing_of hour.now.book.now.table) }
 {
     let mut text = String::new(heap);
     write_rows(&mut text, hour, Kind::Competitive)?;
@@ -44,7 +44,7 @@ pub fn write_listing(
     hour: &SettledHour,
     out: &mut [u8],
 ) -> Result<usize, ListingError>
-    ensures { ListingWritten (listing_of hour.now.table.now) out.old result out.new }
+    ensures { ListingWritten (listing_of hour.now.book.now.table) out.old result out.new }
 {
     let text = listing(heap, hour)?;
     let bytes = text.as_bytes();

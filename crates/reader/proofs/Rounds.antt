@@ -9,12 +9,10 @@ use Rattle.hourfile.specs.declared.faults.Cause.{Cause}
 use Rattle.hourfile.specs.declared.faults.FileFault.{FileFault}
 use Rattle.reader.specs.Outcome.{Outcome, end_fault, stopped, go_on, found_there, read_on, end_of}
 use Rattle.reader.specs.Progress.{Progress, call}
-use Rattle.reader.specs.Progress.Progress.{Unopened, Opened, Closed, Settled}
 use Rattle.reader.specs.Read.{FileRead}
-use Rattle.reader.specs.Reached.{Reaches, BookHolds, Taken}
+use Rattle.reader.specs.Reached.{Reaches, BookHolds, Taken, Takes}
 use Rattle.reader.specs.declared.kept.UnitRows.{UnitRows}
 use Rattle.reader.specs.declared.reached.Reached.{Reached}
-use Rattle.reader.specs.declared.reached.Reached.TheVariants.{Unopened as NoHour, Open as OpenAt, Closed as ClosedAt, Settled as SettledAt}
 
 -- where no word is left, no record is found
 none_left : (place : ℕ) (ws : List ℕ) → length ws ≤ 0 → found_at place (first ws) ≡ Ok None
@@ -56,19 +54,6 @@ stays_by r (Err cause) none = absurd (true≢false (ap is_ok (sym none)))
 pub stays_there : (r : Rest) → found_next r ≡ Ok None → after_next r ≡ r
 stays_there r none = stays_by r (first r.words) none
 
--- where the hour stands is what the book holds
-holds_there : (t : Table) (p : Progress) (reached : Reached) (rows : UnitRows) → Reaches t p reached rows → BookHolds t p reached
-holds_there t Unopened reached rows r = r.0
-holds_there t (Opened m) (NoHour book) rows r = absurd r
-holds_there t (Opened m) (OpenAt hour) rows r = (r.holds, r.header)
-holds_there t (Opened m) (ClosedAt hour) rows r = absurd r
-holds_there t (Opened m) (SettledAt hour) rows r = absurd r
-holds_there t (Closed m) (NoHour book) rows r = absurd r
-holds_there t (Closed m) (OpenAt hour) rows r = absurd r
-holds_there t (Closed m) (ClosedAt hour) rows r = (r.holds, r.header)
-holds_there t (Closed m) (SettledAt hour) rows r = absurd r
-holds_there t (Settled m) reached rows r = r
-
 -- what is left gives the whole's outcome, and the hour stands where the records read so far have led
 abbrev pub Left : Table → Outcome → Rest → Reached → UnitRows → Type 0
 Left t whole r reached rows =
@@ -84,15 +69,15 @@ module _ (t : Table) (whole : Outcome) (r : Rest) (reached : Reached) (rows : Un
   pub stops_malformed : (fault : FileFault) → found_next r ≡ Err fault → FileRead t whole (record { reached = reached; end = Err fault })
   stops_malformed fault bad =
       let (n, p, few, is, there) = left in
-      read_so (stopped p fault) (Err fault) reached (sym is ∙ fails n r p fault few bad) refl (holds_there t p reached rows there)
+      read_so (stopped p fault) (Err fault) reached (sym is ∙ fails n r p fault few bad) refl there.0
 
-  pub stops_at_end : (end : Result Unit FileFault) (place : ℕ) → found_next r ≡ Ok None → place ≡ r.place → ((t : Table) (p : Progress) (rows : UnitRows) → Reaches t p reached rows → end ≡ end_of (end_fault place p)) → FileRead t whole (record { reached = reached; end = end })
+  pub stops_at_end : (end : Result Unit FileFault) (place : ℕ) → found_next r ≡ Ok None → place ≡ r.place → ((t : Table) (p : Progress) → BookHolds t p reached → end ≡ end_of (end_fault place p)) → FileRead t whole (record { reached = reached; end = end })
   stops_at_end end place none there says =
       let (n, p, few, is, stands) = left in
       read_so (record { progress = p; fault = end_fault r.place p }) end reached (sym is ∙ ends n r p none)
-      (says t p rows stands ∙ ap (λ k. end_of (end_fault k p)) there) (holds_there t p reached rows stands)
+      (says t p stands.0 ∙ ap (λ k. end_of (end_fault k p)) there) stands.0
 
-  module _ (at : At) (one : found_next r ≡ Ok (Some at)) (result : Result Unit FileFault) (next : Reached) (new : UnitRows) (taken : (t : Table) (p : Progress) → Reaches t p reached rows → Taken t p (call p at.found) result next new) where
+  module _ (at : At) (one : found_next r ≡ Ok (Some at)) (result : Result Unit FileFault) (next : Reached) (new : UnitRows) (taken : (p : Progress) → Takes p at.found reached rows result next new) where
     goes_on_by : (p : Progress) (k : ℕ) (o : Result Progress Cause) (x : Unit) → length (after_next r).words ≤ k → whole ≡ go_on (read_on k (after_next r)) p at.place o → Taken t p o result next new → result ≡ Ok x → Left t whole (after_next r) next new
     goes_on_by p k (Ok q) x few is step fine = (k, q, few, sym is, step.1)
     goes_on_by p k (Err cause) x few is step fine = absurd (true≢false (ap is_ok (sym fine ∙ step.0)))
@@ -101,14 +86,14 @@ module _ (t : Table) (whole : Outcome) (r : Rest) (reached : Reached) (rows : Un
     goes_on x fine =
         let (n, p, few, is, stands) = left in
         let (k, shorter, more) = goes n r p at few one in
-        goes_on_by p k (call p at.found) x shorter (sym is ∙ more) (taken t p stands) fine
+        goes_on_by p k (call p at.found) x shorter (sym is ∙ more) (taken p t stands) fine
 
     stops_by : (p : Progress) (k : ℕ) (o : Result Progress Cause) (fault : FileFault) → whole ≡ go_on (read_on k (after_next r)) p at.place o → Taken t p o result next new → result ≡ Err fault → FileRead t whole (record { reached = next; end = Err (record { cause = fault.cause; place = at.place }) })
     stops_by p k (Ok q) fault is step bad = absurd (true≢false (ap is_ok (sym step.0 ∙ bad)))
     stops_by p k (Err cause) fault is step bad =
         let same = ap error_of (sym bad ∙ step.0) in
         read_so (stopped p (record { cause = cause; place = at.place })) (Err (record { cause = fault.cause; place = at.place })) next is
-        (ap (λ f. let x : Result Unit FileFault = Err (record { cause = f.cause; place = at.place }) in x) same) (holds_there t p next new step.1)
+        (ap (λ f. let x : Result Unit FileFault = Err (record { cause = f.cause; place = at.place }) in x) same) step.1.0
       where
         error_of : Result Unit FileFault → FileFault
         error_of (Ok x) = fault
@@ -118,7 +103,7 @@ module _ (t : Table) (whole : Outcome) (r : Rest) (reached : Reached) (rows : Un
     stops_refused fault bad =
         let (n, p, few, is, stands) = left in
         let (k, shorter, more) = goes n r p at few one in
-        stops_by p k (call p at.found) fault (sym is ∙ more) (taken t p stands) bad
+        stops_by p k (call p at.found) fault (sym is ∙ more) (taken p t stands) bad
 
 -- the same hour and the same end
 pub read_is : (t : Table) (o : Outcome) (reached reached' : Reached) (end end' : Result Unit FileFault) → reached ≡ reached' → end ≡ end' → FileRead t o (record { reached = reached'; end = end' }) → FileRead t o (record { reached = reached; end = end })

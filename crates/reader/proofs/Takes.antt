@@ -1,71 +1,77 @@
 -- One record is one call: where it leads, by the hour that stands there.
-use Rattle.std.proofs.Common.{◌≡◌, ℕ, ◌<◌, List, [], ◌∷◌, ◌++◌, Option, Some, None, Ok, Err, Result, sym, refl, ap, subst, ◌∙◌, arith}
+use Rattle.std.proofs.Common.{◌≡◌, ℕ, List, ◌∷◌, [], ◌++◌, Option, Some, None, Ok, Err, Result, sym, refl, ap, subst, ◌∙◌, arith}
 use denote.Ref.{Bor}
+use Rattle.book.proofs.Hours.{closes, settling_settles}
+use Rattle.book.proofs.Only.{only_figures}
+use Rattle.book.proofs.Settles.{settled_law}
+use Rattle.book.specs.Hours.{IsOpen, IsClosed}
+use Rattle.book.specs.Taken.{priced_answer_in, next_priced}
+use Rattle.book.specs.declared.closed.ClosedHour.{ClosedHour}
+use Rattle.book.specs.declared.open.OpenHour.{OpenHour}
+use Rattle.book.specs.declared.settled.SettledHour.{SettledHour}
 use Rattle.curves.specs.Kinds.{stepped_offer_price, stepped_cost_price, tariff_price}
 use Rattle.curves.specs.declared.refusals.CurveRefusal.{CurveRefusal}
-use Rattle.settling.specs.Figures.{pay_by}
 use Rattle.settling.specs.Settled.{Settled as HourSettled}
-use Rattle.settling.specs.declared.header.Header.{Header}
-use Rattle.table.proofs.Empty.{empty_stands, empty_unread}
-use Rattle.table.specs.Closing.{Closed as HourClosed}
-use Rattle.table.specs.Effects.{number_of}
+use Rattle.table.proofs.Kept.{reading_law}
+use Rattle.table.proofs.Laws.{closing_law}
+use Rattle.table.specs.ClosingLaw.{ClosingLaw}
+use Rattle.table.specs.Effects.{unless}
 use Rattle.table.specs.Entries.{rows}
-use Rattle.table.specs.History.{Stands, view_in, adds_unit, empty_table}
-use Rattle.table.specs.Metered.{Metered}
-use Rattle.table.specs.Readings.{reading_rows}
+use Rattle.table.specs.History.{view_in, adds_unit, number_in}
+use Rattle.table.specs.Readings.{reading_rows, reading_number}
 use Rattle.table.specs.declared.entries.Entry.{Entry}
 use Rattle.table.specs.declared.readings.Reading.{Reading}
 use Rattle.table.specs.declared.records.Table.{Table}
 use Rattle.table.specs.declared.refusals.BookRefusal.{BookRefusal}
-use Rattle.book.specs.declared.closed.ClosedHour.{ClosedHour}
-use Rattle.book.specs.declared.open.OpenHour.{OpenHour}
-use Rattle.book.specs.declared.settled.SettledHour.{SettledHour}
+use Rattle.table.specs.declared.refusals.UnitRefusal.{UnitRefusal}
+use Rattle.table.specs.declared.refusals.UnitRefusal.TheVariants.{Book as ByBook, Rows as ByRows}
 use Rattle.hourfile.specs.Calls.{entry_of, reading_of}
+use Rattle.hourfile.specs.Words.{value_at}
+use Rattle.hourfile.specs.Faults.{unit_cause}
 use Rattle.hourfile.specs.Format.{plain}
+use Rattle.hourfile.specs.declared.faults.Cause.TheVariants.{Steps as ByLists}
 use Rattle.hourfile.specs.declared.faults.FileFault.{FileFault}
 use Rattle.hourfile.specs.declared.records.Record.{Record}
 use Rattle.hourfile.specs.declared.records.Record.TheVariants.{Header as HeaderOf, Plant, CompetitiveUnit, GuaranteedUnit, Buyer, Commit, Correct, PutAside, TakeBack, Close, CompetitiveReading, GuaranteedReading, BuyerReading, Settle}
-use Rattle.reader.proofs.Advance.{EntryStep, entry_step, UnitStep, unit_step, close_step, ReadingStep, reading_step, settle_step}
-use Rattle.reader.specs.Calls.{unit_end, unit_answer, after_unit, RowsAfter}
-use Rattle.reader.specs.Holds.{OpenHolds, ClosedHolds, SettledHolds, tariffs}
+use Rattle.reader.proofs.Advance.{entry_made, priced_made, reading_made}
+use Rattle.reader.specs.Calls.{book_end, unit_end, RowsAfter, EntryMade, UnitMade, ReadingMade}
+use Rattle.reader.specs.Holds.{entries_made, readings_made, tariffs, closing_offers, ClosedBy, pay_of, ClosedHolds, SettledHolds}
 use Rattle.reader.specs.Progress.{Made, Progress, entered, unit_entered, unit_entry, unit_row, with_row, taken, unit_call, entry_call, reading_call, open_call, closed_call, read}
 use Rattle.reader.specs.Progress.Progress.{Unopened, Opened, Closed, Settled}
-use Rattle.reader.specs.Reached.{KeptRows, OpenReached, ClosedReached, NoRows, Reaches, Taken, entry_end, entry_after, reading_end, reading_after}
+use Rattle.reader.specs.Reached.{KeptRows, Reaches, Taken}
 use Rattle.reader.specs.Rows.{UnitRow, rows_of, offers_of}
 use Rattle.reader.specs.declared.kept.UnitRows.{UnitRows}
-use Rattle.reader.specs.declared.reached.Reached.TheVariants.{Open as OpenAt, Closed as ClosedAt}
-
--- an hour that was opened is empty
-pub opened_reached : (header : Header) (hour : OpenHour) (kept : UnitRows) → hour.table.now ≡ empty_table → hour.header ≡ header → NoRows kept → OpenReached (record { header = header; entries = []; rows = []; readings = [] }) hour kept
-opened_reached header hour kept empty same none = record {
-  holds = record {
-    table = empty;
-    unread = refl;
-    proper = Prim.tt;
-    stands = subst (Stands []) (sym empty) empty_stands;
-    metered = subst (Metered []) (sym empty) empty_unread;
-  };
-  header = same;
-  kept = record { rows = none.0; count = none.1 };
-}
+use Rattle.reader.specs.declared.reached.Reached.TheVariants.{Open as OpenAt, Closed as ClosedAt, Settled as SettledAt}
 
 -- closing an hour by the rows that are kept
-pub closed_reached : (m : Made) (hour : OpenHour) (next : ClosedHour) (kept : UnitRows) → OpenReached m hour kept → HourClosed stepped_offer_price (offers_of (rows_of kept)) tariff_price (tariffs hour.header) hour.table.now next.table.now → next.header ≡ hour.header → ClosedReached m next kept
-closed_reached m hour next kept r closing same =
-    let rows = subst (λ x. HourClosed stepped_offer_price (offers_of x) tariff_price (tariffs hour.header) hour.table.now next.table.now) r.kept.rows closing in
-    let both = subst (λ x. HourClosed stepped_offer_price (offers_of m.rows) tariff_price (tariffs x) hour.table.now next.table.now) r.header rows in
-    record {
-      holds = close_step m hour.table.now next.table.now r.holds both;
-      header = same ∙ r.header;
-      kept = r.kept;
-    }
+pub closed_reached : (t : Table) (m : Made) (hour : OpenHour) (next : ClosedHour) (kept : UnitRows) → Reaches t (Opened m) (OpenAt hour) kept → ClosedBy hour.header (rows_of kept) hour.book.now.table next.book.now.table → next.header ≡ hour.header → Reaches t (Closed m) (ClosedAt next) kept
+closed_reached t m hour next kept (((table, unread), stands), rows) closing same =
+    let both : ClosedBy m.header m.rows hour.book.now.table next.book.now.table = rw (sym rows.rows) (rw (sym stands.header) closing) in
+    let holds : ClosedHolds m next.book.now.table = record {
+      closed = next.book.now.table;
+      closing = subst (λ x. ClosedBy m.header m.rows x next.book.now.table) table both;
+      table = ap (readings_made next.book.now.table) (sym unread);
+      law = closing_law _ _ _ _ m.entries hour.book.now.table next.book.now.table stands.table.proper stands.table.stands both;
+    } in
+    let closed = closes _ _ _ _ hour next both same m.header m.entries stands in
+    ((holds, subst (λ rs. IsClosed m.header (closing_offers m) m.entries rs next) (sym unread) closed), rows)
 
 -- settling it
-pub settled_reached : (m : Made) (hour : ClosedHour) (next : SettledHour) (kept : UnitRows) → ClosedReached m hour kept → HourSettled hour.header (pay_by stepped_offer_price stepped_cost_price (rows_of kept) tariff_price (tariffs hour.header) hour.header) hour.table.now next.table.now → SettledHolds m next.table.now
-settled_reached m hour next kept r settling =
-    let rows = subst (λ x. HourSettled hour.header (pay_by stepped_offer_price stepped_cost_price x tariff_price (tariffs hour.header) hour.header) hour.table.now next.table.now) r.kept.rows settling in
-    settle_step m hour.table.now next.table.now r.holds
-    (subst (λ x. HourSettled x (pay_by stepped_offer_price stepped_cost_price m.rows tariff_price (tariffs x) x) hour.table.now next.table.now) r.header rows)
+pub settled_reached : (t : Table) (m : Made) (hour : ClosedHour) (next : SettledHour) (kept : UnitRows) → Reaches t (Closed m) (ClosedAt hour) kept → HourSettled hour.header (pay_of hour.header (rows_of kept)) hour.book.now.table next.book.now.table → Reaches t (Settled m) (SettledAt next) kept
+settled_reached t m hour next kept ((holds, stands), rows) settling =
+    let both : HourSettled m.header (pay_of m.header m.rows) hour.book.now.table next.book.now.table = rw (sym rows.rows) (rw (sym stands.header) settling) in
+    let c = stands.table in
+    let law = settled_law _ _ _ _ m.header (pay_of m.header m.rows) m.entries c.proper m.readings hour.book.now.table next.book.now.table c.stands c.metered holds.law both in
+    let settled : SettledHolds m next.book.now.table = record {
+      closed = hour.book.now.table;
+      before = holds;
+      stands = c;
+      settling = both;
+      law = law;
+      only = only_figures _ _ _ _ m.header (pay_of m.header m.rows) m.entries m.readings next.book.now.table c.proper law;
+    } in
+    let table = settling_settles stepped_offer_price stepped_cost_price m.rows tariff_price (tariffs m.header) m.header (closing_offers m) m.entries m.readings hour.book.now.table next.book.now.table both c in
+    ((settled, record { table = table }), Prim.tt)
 
 -- what an entry adds to the competitive units, if it is one
 abbrev pub added_by : Option Entry → ℕ
@@ -123,65 +129,78 @@ other_read m (BuyerReading v) settle = refl
 other_read m (Settle v) settle = absurd (settle v refl)
 
 -- an entry, or a record that is none
-module _ (t : Table) (m : Made) (hour next : OpenHour) (kept : UnitRows) (r : OpenReached m hour kept) (end : Result Unit FileFault) (same : next.header ≡ hour.header) where
-  after_call : (e : Entry) (o : Option BookRefusal) → adds_unit 1 e ≡ 0 → EntryStep m e o hour.table.now next.table.now → end ≡ entry_end (Some e) hour.table.now → Taken t (Opened m) (taken o (Ok (Opened (entered m e)))) end (OpenAt next) kept
-  after_call e None none step answer = (
-    answer ∙ step.0,
-    record {
-      holds = step.1;
-      header = same ∙ r.header;
-      kept = record { rows = r.kept.rows; count = r.kept.count ∙ omega (arith, none) };
-    },
-  )
-  after_call e (Some refusal) none step answer = (answer ∙ step.0, record { holds = step.1; header = same ∙ r.header; kept = r.kept })
+module _ (t : Table) (m : Made) (hour next : OpenHour) (kept : UnitRows) (r : Reaches t (Opened m) (OpenAt hour) kept) (end : Result Unit FileFault) where
+  entry_by : (e : Entry) (o : Option BookRefusal) → adds_unit 1 e ≡ 0 → end ≡ book_end (unless o Err (Ok (number_in e m.entries))) → next.book.now.table ≡ entries_made (unless o (λ _. m.entries) (e ∷ m.entries)) → IsOpen m.header (unless o (λ _. m.entries) (e ∷ m.entries)) next → Taken t (Opened m) (taken o (Ok (Opened (entered m e)))) end (OpenAt next) kept
+  entry_by e None none told table stands =
+      (told, (((table, r.0.0.1), stands), record { rows = r.1.rows; count = r.1.count ∙ omega (arith, none) }))
+  entry_by e (Some refusal) none told table stands = (told, (((table, r.0.0.1), stands), r.1))
 
-  pub entry_taken : (o : Option Entry) → added_by o ≡ 0 → end ≡ entry_end o hour.table.now → next.table.now ≡ entry_after o hour.table.now → Taken t (Opened m) (entry_call m o) end (OpenAt next) kept
-  entry_taken None none answer after =
-      (answer, record { holds = subst (OpenHolds m) (sym after) r.holds; header = same ∙ r.header; kept = r.kept })
-  entry_taken (Some e) none answer after =
-      after_call e (rows (view_in m.entries) e) none (entry_step m e hour.table.now next.table.now r.holds after (rows (view_in m.entries) e) refl) answer
+  pub entry_taken : (o : Option Entry) → added_by o ≡ 0 → EntryMade o end hour next → Taken t (Opened m) (entry_call m o) end (OpenAt next) kept
+  entry_taken None none (told, same) = (told, subst (λ x. Reaches t (Opened m) (OpenAt x) kept) (sym same) r)
+  entry_taken (Some e) none (answer, told, made) =
+      let (holds, stands) = r.0 in
+      entry_by e (rows (view_in m.entries) e) none (told ∙ ap book_end (made.follows m.header m.entries stands))
+      (made.after ∙ entry_made e m.entries hour.book.now.table stands.table.stands holds.0)
+      (made.stands m.header m.entries stands)
 
--- a competitive unit with its rows
-module _ (t : Table) (m : Made) (v : List ℕ) (hour next : OpenHour) (kept new : UnitRows) (r : OpenReached m hour kept) (end : Result Unit FileFault) (same : next.header ≡ hour.header) where
-  unit_kept : (row : UnitRow) (n : ℕ) → OpenHolds (unit_entered m (unit_entry v) row) next.table.now → RowsAfter (Ok (n, row)) kept new → KeptRows (unit_entered m (unit_entry v) row) new
-  unit_kept row n holds more =
-      let room : kept.count < 128 = omega (arith, holds.stands.competitive.room, r.kept.count) in
-      let both = more room in
-      record { rows = both.0 ∙ ap (λ l. l ++ (row ∷ [])) r.kept.rows; count = both.1 ∙ omega (arith, r.kept.count) }
+-- a competitive unit with its rows: the book's rows of refusals, then the lists'
+module _ (t : Table) (m : Made) (v : List ℕ) (hour next : OpenHour) (kept new : UnitRows) (r : Reaches t (Opened m) (OpenAt hour) kept) (end : Result Unit FileFault) where
+  -- what is told by an answer, and the entries accepted with it
+  record UnitStep (answer : Result (ℕ × UnitRow) UnitRefusal) (h : List Entry) : Type 0 where
+    told : end ≡ unit_end answer
+    table : next.book.now.table ≡ entries_made h
+    stands : IsOpen m.header h next
+    rows : RowsAfter answer kept new
 
-  stays : OpenHolds m next.table.now → new ≡ kept → OpenReached m next new
-  stays holds is = record { holds = holds; header = same ∙ r.header; kept = subst (KeptRows m) (sym is) r.kept }
+  turned_down : (refusal : UnitRefusal) → UnitStep (Err refusal) m.entries → Taken t (Opened m) (Err (unit_cause refusal)) end (OpenAt next) new
+  turned_down refusal s = (s.told, (((s.table, r.0.0.1), s.stands), subst (KeptRows m.rows m.entries) (sym s.rows) r.1))
 
-  unit_taken_by : (o : Option BookRefusal) (x : Result UnitRow CurveRefusal) → UnitStep m v o x hour.table.now next.table.now → end ≡ unit_end (unit_answer v hour.table.now) → RowsAfter (unit_answer v hour.table.now) kept new → Taken t (Opened m) (taken o (with_row m (unit_entry v) x)) end (OpenAt next) new
-  unit_taken_by None (Ok row) step answer after =
-      let more = subst (λ a. RowsAfter a kept new) step.0 after in
-      (answer ∙ ap unit_end step.0, record { holds = step.1; header = same ∙ r.header; kept = unit_kept row (number_of (unit_entry v) hour.table.now) step.1 more })
-  unit_taken_by None (Err refusal) step answer after =
-      (answer ∙ ap unit_end step.0, stays step.1 (subst (λ a. RowsAfter a kept new) step.0 after))
-  unit_taken_by (Some refusal) x step answer after =
-      (answer ∙ ap unit_end step.0, stays step.1 (subst (λ a. RowsAfter a kept new) step.0 after))
+  row_by : (row : UnitRow) (o : Option BookRefusal) → UnitStep (unless o (λ x. Err (ByBook x)) (Ok (number_in (unit_entry v) m.entries, row))) (unless o (λ _. m.entries) (unit_entry v ∷ m.entries)) → Taken t (Opened m) (taken o (Ok (Opened (unit_entered m (unit_entry v) row)))) end (OpenAt next) new
+  row_by row None s =
+      let both = s.rows (omega (arith, s.stands.table.stands.competitive.room, r.1.count)) in
+      let more : KeptRows (m.rows ++ (row ∷ [])) (unit_entry v ∷ m.entries) new = record { rows = both.0 ∙ ap (λ l. l ++ (row ∷ [])) r.1.rows; count = both.1 ∙ omega (arith, r.1.count) } in
+      (s.told, (((s.table, r.0.0.1), s.stands), more))
+  row_by row (Some refusal) s = turned_down (ByBook refusal) s
 
-  pub unit_taken : end ≡ unit_end (unit_answer v hour.table.now) → next.table.now ≡ after_unit v hour.table.now → RowsAfter (unit_answer v hour.table.now) kept new → Taken t (Opened m) (unit_call m v) end (OpenAt next) new
-  unit_taken answer moved after =
-      unit_taken_by (rows (view_in m.entries) (unit_entry v)) (unit_row v)
-      (unit_step m v hour.table.now next.table.now r.holds (rows (view_in m.entries) (unit_entry v)) (unit_row v) refl refl moved) answer after
+  lists_by : (refusal : CurveRefusal) (o : Option BookRefusal) → UnitStep (unless o (λ x. Err (ByBook x)) (Err (ByRows refusal))) m.entries → Taken t (Opened m) (taken o (Err (ByLists refusal))) end (OpenAt next) new
+  lists_by refusal None s = turned_down (ByRows refusal) s
+  lists_by refusal (Some first) s = turned_down (ByBook first) s
+
+  unit_by : (x : Result UnitRow CurveRefusal) → UnitStep (priced_answer_in (value_at v 0) (value_at v 1) (value_at v 2) x m.entries) (next_priced (value_at v 0) (value_at v 1) (value_at v 2) x m.entries) → Taken t (Opened m) (taken (rows (view_in m.entries) (unit_entry v)) (with_row m (unit_entry v) x)) end (OpenAt next) new
+  unit_by (Ok row) s = row_by row (rows (view_in m.entries) (unit_entry v)) s
+  unit_by (Err refusal) s = lists_by refusal (rows (view_in m.entries) (unit_entry v)) s
+
+  pub unit_taken : UnitMade v end hour next kept new → Taken t (Opened m) (unit_call m v) end (OpenAt next) new
+  unit_taken made =
+      let (holds, stands) = r.0 in
+      let follows = made.taken.follows m.header m.entries stands in
+      unit_by (unit_row v) (record {
+        told = made.told ∙ ap unit_end follows;
+        table = made.taken.after ∙ priced_made (value_at v 0) (value_at v 1) (value_at v 2) (unit_row v) m.entries hour.book.now.table stands.table.stands holds.0;
+        stands = made.taken.stands m.header m.entries stands;
+        rows = subst (λ a. RowsAfter a kept new) follows made.rows;
+      })
 
 -- a reading, or a record that is none
-module _ (t : Table) (m : Made) (hour next : ClosedHour) (kept : UnitRows) (r : ClosedReached m hour kept) (end : Result Unit FileFault) (same : next.header ≡ hour.header) where
-  after_read : (x : Reading) (o : Option BookRefusal) → ReadingStep m x o hour.table.now next.table.now → end ≡ reading_end (Some x) hour.table.now → Taken t (Closed m) (taken o (Ok (Closed (read m x)))) end (ClosedAt next) kept
-  after_read x None step answer =
-      (answer ∙ step.0, record { holds = step.1; header = same ∙ r.header; kept = record { rows = r.kept.rows; count = r.kept.count } })
-  after_read x (Some refusal) step answer = (answer ∙ step.0, record { holds = step.1; header = same ∙ r.header; kept = r.kept })
+module _ (t : Table) (m : Made) (hour next : ClosedHour) (kept : UnitRows) (r : Reaches t (Closed m) (ClosedAt hour) kept) (end : Result Unit FileFault) where
+  reading_by : (x : Reading) (o : Option BookRefusal) → end ≡ book_end (unless o Err (Ok (reading_number x))) → next.book.now.table ≡ readings_made r.0.0.closed (unless o (λ _. m.readings) (x ∷ m.readings)) → ClosingLaw stepped_offer_price (offers_of m.rows) tariff_price (tariffs m.header) m.entries next.book.now.table → IsClosed m.header (closing_offers m) m.entries (unless o (λ _. m.readings) (x ∷ m.readings)) next → Taken t (Closed m) (taken o (Ok (Closed (read m x)))) end (ClosedAt next) kept
+  reading_by x None told table law stands =
+      (told, ((record { closed = r.0.0.closed; closing = r.0.0.closing; table = table; law = law }, stands), r.1))
+  reading_by x (Some refusal) told table law stands =
+      (told, ((record { closed = r.0.0.closed; closing = r.0.0.closing; table = table; law = law }, stands), r.1))
 
-  pub reading_taken : (o : Option Reading) → end ≡ reading_end o hour.table.now → next.table.now ≡ reading_after o hour.table.now → Taken t (Closed m) (reading_call m o) end (ClosedAt next) kept
-  reading_taken None answer after =
-      (answer, record { holds = subst (ClosedHolds m) (sym after) r.holds; header = same ∙ r.header; kept = r.kept })
-  reading_taken (Some x) answer after =
-      after_read x (reading_rows (view_in m.entries) x) (reading_step m x hour.table.now next.table.now r.holds after (reading_rows (view_in m.entries) x) refl) answer
+  pub reading_taken : (o : Option Reading) → ReadingMade o end hour next → Taken t (Closed m) (reading_call m o) end (ClosedAt next) kept
+  reading_taken None (told, same) = (told, subst (λ x. Reaches t (Closed m) (ClosedAt x) kept) (sym same) r)
+  reading_taken (Some x) (answer, told, made) =
+      let (holds, stands) = r.0 in
+      reading_by x (reading_rows (view_in m.entries) x) (told ∙ ap book_end (made.follows m.header (closing_offers m) m.entries m.readings stands))
+      (made.after ∙ reading_made x m.entries m.readings holds.closed hour.book.now.table stands.table.stands holds.table)
+      (rw made.after (reading_law _ _ _ _ m.entries hour.book.now.table x holds.law))
+      (made.stands m.header (closing_offers m) m.entries m.readings stands)
 
 -- the records that an open hour has led to
-pub open_is : (t : Table) (p : Progress) (hour : OpenHour) (kept : UnitRows) → Reaches t p (OpenAt hour) kept → (m : Made) × (p ≡ Opened m) × OpenReached m hour kept
+pub open_is : (t : Table) (p : Progress) (hour : OpenHour) (kept : UnitRows) → Reaches t p (OpenAt hour) kept → (m : Made) × (p ≡ Opened m) × Reaches t (Opened m) (OpenAt hour) kept
 open_is t Unopened hour kept r = absurd r.0
 open_is t (Opened m) hour kept r = (m, refl, r)
-open_is t (Closed m) hour kept r = absurd r
-open_is t (Settled m) hour kept r = absurd r
+open_is t (Closed m) hour kept r = absurd r.0
+open_is t (Settled m) hour kept r = absurd r.0

@@ -1,13 +1,16 @@
--- What the calls of a record answer, by the table of the hour.
-use Rattle.std.specs.Prelude.{◌≡◌, ℕ, ◌+◌, ◌<◌, ◌++◌, ◌∷◌, [], List, Ok, Err, Result}
-use Rattle.table.specs.Effects.{priced_answer, after_priced}
-use Rattle.table.specs.declared.records.Table.{Table}
+-- What the call of a record makes of an hour.
+use Rattle.std.specs.Prelude.{◌≡◌, ℕ, ◌+◌, ◌<◌, ◌++◌, ◌∷◌, [], List, Option, Some, None, Ok, Err, Result}
+use Rattle.table.specs.declared.entries.Entry.{Entry}
+use Rattle.table.specs.declared.readings.Reading.{Reading}
 use Rattle.table.specs.declared.refusals.BookRefusal.{BookRefusal}
 use Rattle.table.specs.declared.refusals.UnitRefusal.{UnitRefusal}
+use Rattle.book.specs.Taken.{EntryTaken, PricedTaken, ReadingTaken}
+use Rattle.book.specs.declared.closed.ClosedHour.{ClosedHour}
+use Rattle.book.specs.declared.open.OpenHour.{OpenHour}
 use Rattle.hourfile.specs.Faults.{unit_cause}
 use Rattle.hourfile.specs.Words.{value_at}
 use Rattle.hourfile.specs.declared.faults.Cause.{Cause}
-use Rattle.hourfile.specs.declared.faults.Cause.TheVariants.{Book}
+use Rattle.hourfile.specs.declared.faults.Cause.TheVariants.{Misplaced, Book}
 use Rattle.hourfile.specs.declared.faults.FileFault.{FileFault}
 use Rattle.reader.specs.Progress.{unit_row}
 use Rattle.reader.specs.Rows.{UnitRow, rows_of}
@@ -31,9 +34,20 @@ abbrev pub RowsAfter : Result (ℕ × UnitRow) UnitRefusal → UnitRows → Unit
 RowsAfter (Ok x) old new = old.count < 128 → (rows_of new ≡ rows_of old ++ (x.1 ∷ [])) × (new.count ≡ old.count + 1)
 RowsAfter (Err refusal) old new = new ≡ old
 
--- a competitive unit's answer, by its values and the table
-abbrev pub unit_answer : List ℕ → Table → Result (ℕ × UnitRow) UnitRefusal
-unit_answer v t = priced_answer (value_at v 0) (value_at v 1) (value_at v 2) (unit_row v) t
+-- The entry of a record is taken, and its answer is told as the file's. A record that is none is misplaced, and the hour
+-- stays.
+abbrev pub EntryMade : Option Entry → Result Unit FileFault → OpenHour → OpenHour → Type 0
+EntryMade None end hour next = (end ≡ Err (unplaced Misplaced)) × (next ≡ hour)
+EntryMade (Some e) end hour next = (answer : Result ℕ BookRefusal) × (end ≡ book_end answer) × EntryTaken e answer hour next
 
-abbrev pub after_unit : List ℕ → Table → Table
-after_unit v t = after_priced (value_at v 0) (value_at v 1) (value_at v 2) (unit_row v) t
+-- so is that of a competitive unit's values, with the outcome of making its row
+pub record UnitMade (v : List ℕ) (end : Result Unit FileFault) (hour next : OpenHour) (kept new : UnitRows) : Type 0 where
+  pub answer : Result (ℕ × UnitRow) UnitRefusal
+  pub told : end ≡ unit_end answer
+  pub taken : PricedTaken (value_at v 0) (value_at v 1) (value_at v 2) (unit_row v) answer hour next
+  pub rows : RowsAfter answer kept new
+
+-- and the reading of a record
+abbrev pub ReadingMade : Option Reading → Result Unit FileFault → ClosedHour → ClosedHour → Type 0
+ReadingMade None end hour next = (end ≡ Err (unplaced Misplaced)) × (next ≡ hour)
+ReadingMade (Some r) end hour next = (answer : Result ℕ BookRefusal) × (end ≡ book_end answer) × ReadingTaken r answer hour next

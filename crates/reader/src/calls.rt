@@ -1,10 +1,9 @@
 // One record is one call: where it leads.
 ghost use Rattle.std.specs.Prelude.{◌≡◌};
-ghost use Rattle.table.specs.declared.records.Table.{Table};
 ghost use Rattle.hourfile.specs.Format.{plain};
-ghost use Rattle.reader.specs.Progress.{Made, Progress, call};
-ghost use Rattle.reader.specs.Progress.Progress.{Unopened, Opened, Closed, Settled};
-ghost use Rattle.reader.specs.Reached.{OpenReached, ClosedReached, NoRows, Reaches, Taken};
+ghost use Rattle.reader.specs.Progress.{Made, Progress};
+ghost use Rattle.reader.specs.Progress.Progress.{Unopened, Opened, Closed};
+ghost use Rattle.reader.specs.Reached.{Takes};
 ghost use Rattle.reader.specs.declared.kept.UnitRows.{UnitRows};
 
 use crate::hours::{close, enter, enter_unit, header_of, read, settle};
@@ -15,7 +14,7 @@ use hourfile::{Cause, FileFault, Record};
 
 // The first record: a header opens an empty hour.
 fn first<'b>(book: &'b mut Book, given: &Record) -> (Reached<'b>, Result<(), FileFault>)
-    ensures { (rows : UnitRows) → NoRows rows → Taken book.old.table Unopened (call Unopened (plain given.now)) result.1 result.0 rows }
+    ensures { (rows : UnitRows) → Takes Unopened (plain given.now) (Reached.Unopened book.entry) rows result.1 result.0 rows }
 {
     let Record::Header(values) = given else {
         return (Reached::Unopened(book), Err(Cause::Misplaced.into()));
@@ -32,7 +31,7 @@ fn on_open<'b>(
     rows: &mut UnitRows,
     given: &Record,
 ) -> (Reached<'b>, Result<(), FileFault>)
-    ensures { (t : Table) (m : Made) → OpenReached m hour.entry rows.old → Taken t (Opened m) (call (Opened m) (plain given.now)) result.1 result.0 rows.new }
+    ensures { (m : Made) → Takes (Opened m) (plain given.now) (Reached.Open hour.entry) rows.old result.1 result.0 rows.new }
 {
     match given {
         Record::Close(_) => (Reached::Closed(close(hour, rows)), Ok(())),
@@ -53,7 +52,7 @@ fn on_closed<'b>(
     rows: &UnitRows,
     given: &Record,
 ) -> (Reached<'b>, Result<(), FileFault>)
-    ensures { (t : Table) (m : Made) → ClosedReached m hour.entry rows.now → Taken t (Closed m) (call (Closed m) (plain given.now)) result.1 result.0 rows.now }
+    ensures { (m : Made) → Takes (Closed m) (plain given.now) (Reached.Closed hour.entry) rows.now result.1 result.0 rows.now }
 {
     if let Record::Settle(_) = given {
         return (Reached::Settled(settle(hour, rows)), Ok(()));
@@ -69,7 +68,7 @@ impl<'b> Reached<'b> {
         rows: &mut UnitRows,
         given: &Record,
     ) -> (Reached<'b>, Result<(), FileFault>)
-        ensures { (t : Table) (p : Progress) → Reaches t p self.entry rows.old → Taken t p (call p (plain given.now)) result.1 result.0 rows.new }
+        ensures { (p : Progress) → Takes p (plain given.now) self.entry rows.old result.1 result.0 rows.new }
     {
         match self {
             Reached::Unopened(book) => first(book, given),

@@ -3,16 +3,12 @@ ghost use Rattle.std.specs.Prelude.{◌≡◌};
 ghost use Rattle.hourfile.specs.Words.{words};
 ghost use Rattle.settling.specs.Headers.{checked};
 ghost use Rattle.settling.specs.Settled.{Settled};
-ghost use Rattle.table.specs.Closing.{Closed};
 ghost use Rattle.hourfile.specs.Format.{plain};
 ghost use Rattle.hourfile.specs.Calls.{entry_of, reading_of};
-ghost use Rattle.curves.specs.Kinds.{stepped_offer_price, stepped_cost_price, tariff_price};
-ghost use Rattle.settling.specs.Figures.{pay_by};
-ghost use Rattle.reader.specs.Calls.{unit_end, unit_answer, after_unit, RowsAfter};
-ghost use Rattle.reader.specs.Holds.{tariffs};
+ghost use Rattle.reader.specs.Holds.{tariffs, ClosedBy, pay_of};
 ghost use Rattle.reader.specs.Progress.{header_of};
-ghost use Rattle.reader.specs.Reached.{entry_end, entry_after, reading_end, reading_after};
-ghost use Rattle.reader.specs.Rows.{rows_of, offers_of};
+ghost use Rattle.reader.specs.Calls.{EntryMade, UnitMade, ReadingMade};
+ghost use Rattle.reader.specs.Rows.{rows_of};
 
 use crate::kept::UnitRows;
 use crate::units::unit_row;
@@ -36,9 +32,7 @@ pub(crate) fn header_of(values: &[Word]) -> Result<Header, BookRefusal>
 
 /// Makes the entry of a record, if it is one.
 pub(crate) fn enter(hour: &mut OpenHour, given: &Record) -> Result<(), FileFault>
-    ensures answer { result ≡ entry_end (entry_of (plain given.now)) hour.old.table.now }
-    ensures after { hour.new.table.now ≡ entry_after (entry_of (plain given.now)) hour.old.table.now }
-    ensures header { hour.new.header ≡ hour.old.header }
+    ensures { EntryMade (entry_of (plain given.now)) result hour.old hour.new }
 {
     let entry = given.entry().ok_or(Cause::Misplaced)?;
     hour.enter(entry)?;
@@ -51,10 +45,7 @@ pub(crate) fn enter_unit(
     rows: &mut UnitRows,
     values: &[Word],
 ) -> Result<(), FileFault>
-    ensures answer { result ≡ unit_end (unit_answer (words values.now) hour.old.table.now) }
-    ensures after { hour.new.table.now ≡ after_unit (words values.now) hour.old.table.now }
-    ensures header { hour.new.header ≡ hour.old.header }
-    ensures rows { RowsAfter (unit_answer (words values.now) hour.old.table.now) rows.old rows.new }
+    ensures { UnitMade (words values.now) result hour.old hour.new rows.old rows.new }
 {
     let made = unit_row(values);
     let plant = value_at(values, 0);
@@ -67,9 +58,7 @@ pub(crate) fn enter_unit(
 
 /// Takes the reading of a record, if it is one.
 pub(crate) fn read(hour: &mut ClosedHour, given: &Record) -> Result<(), FileFault>
-    ensures answer { result ≡ reading_end (reading_of (plain given.now)) hour.old.table.now }
-    ensures after { hour.new.table.now ≡ reading_after (reading_of (plain given.now)) hour.old.table.now }
-    ensures header { hour.new.header ≡ hour.old.header }
+    ensures { ReadingMade (reading_of (plain given.now)) result hour.old hour.new }
 {
     let reading = given.reading().ok_or(Cause::Misplaced)?;
     hour.read(reading)?;
@@ -86,7 +75,7 @@ fn tariffs(header: &Header) -> [Tariff; UNITS]
 
 /// Closes the hour by the offers of its rows.
 pub(crate) fn close<'b>(hour: OpenHour<'b>, rows: &UnitRows) -> ClosedHour<'b>
-    ensures closed { Closed stepped_offer_price (offers_of (rows_of rows.now)) tariff_price (tariffs hour.entry.header) hour.entry.table.now result.table.now }
+    ensures closed { ClosedBy hour.entry.header (rows_of rows.now) hour.entry.book.now.table result.book.now.table }
     ensures header { result.header ≡ hour.entry.header }
 {
     let header = hour.header();
@@ -96,7 +85,7 @@ pub(crate) fn close<'b>(hour: OpenHour<'b>, rows: &UnitRows) -> ClosedHour<'b>
 
 /// Settles the hour by its rows.
 pub(crate) fn settle<'b>(hour: ClosedHour<'b>, rows: &UnitRows) -> SettledHour<'b>
-    ensures { Settled hour.entry.header (pay_by stepped_offer_price stepped_cost_price (rows_of rows.now) tariff_price (tariffs hour.entry.header) hour.entry.header) hour.entry.table.now result.table.now }
+    ensures { Settled hour.entry.header (pay_of hour.entry.header (rows_of rows.now)) hour.entry.book.now.table result.book.now.table }
 {
     let header = hour.header();
     hour.settle(rows.kept(), &tariffs(&header))

@@ -7,8 +7,7 @@ ghost use Rattle.reader.specs.Outcome.{FileOf, read_on, records_read, outcome, e
 ghost use Rattle.reader.specs.Progress.{Progress};
 ghost use Rattle.reader.specs.Progress.Progress.{Unopened};
 ghost use Rattle.reader.specs.Read.{FileRead};
-ghost use Rattle.reader.specs.Reached.{Reaches};
-ghost use Rattle.reader.specs.declared.kept.UnitRows.{UnitRows};
+ghost use Rattle.reader.specs.Reached.{BookHolds};
 
 use crate::kept::UnitRows;
 use crate::reached::{FileHour, Reached};
@@ -18,7 +17,7 @@ use hourfile::{Cause, FileFault, Reader};
 impl Reached<'_> {
     // The end of the file at a place: a fault before settle.
     fn ended(&self, place: u32) -> Result<(), FileFault>
-        ensures { (t : Table) (p : Progress) (rows : UnitRows) → Reaches t p self.now rows → result ≡ end_of (end_fault place p) }
+        ensures { (t : Table) (p : Progress) → BookHolds t p self.now → result ≡ end_of (end_fault place p) }
     {
         match self {
             Reached::Settled(_) => Ok(()),

@@ -7,7 +7,7 @@ use Rattle.listing.proofs.text.write_rows.Goals as goal
 
 pub loop-number-preserved : goal.loop-number-preserved
 loop-number-preserved c =
-    let t = c.args.hour.now.table.now in
+    let t = c.args.hour.now.book.now.table in
     let found : row_in c.args.kind c.loop-number.number t ≡ Some c.in-Some.row = sym c.of.ensures ∙ c.in-Some.is in (
       omega arith,
       omega (arith, row_there c.args.kind c.loop-number.number t c.in-Some.row found),

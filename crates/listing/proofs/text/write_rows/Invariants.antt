@@ -8,6 +8,6 @@ use Rattle.listing.proofs.text.write_rows.Given as goal
 -- the rows before this number are written, and there are as many
 abbrev pub invariant-loop-number : goal.invariant-loop-number
 invariant-loop-number l =
-    let t = l.hour.table.now in
+    let t = l.hour.book.now.table in
     (1 ≤ l.number) × (l.number ≤ count_of l.kind t + 1)
     × (string_bytes l.text ≡ string_bytes l.fn.text ++ flat_map (λ number. line_of (row_in l.kind number t)) (range_with_len 1 (l.number - 1)))

@@ -25,7 +25,7 @@ loop-fault-preserved c =
     let at : At = record { found = plain c.in-Ok-Some.placed.record; place = c.in-Ok-Some.placed.place } in
     let one : found_next r ≡ Ok (Some at) = sym c.next.ensures.found ∙ ap view_next (c.in-Ok-Some.is ∙ ap Ok c.in-Ok-Some.field-0-is) in
     subst (λ x. Left t o x c.take-next.result.0 c.take-next.new.rows) (sym c.next.ensures.after)
-    (goes_on t o r c.loop-fault.reached c.loop-fault.rows c.loop-fault.invariant at one c.take-next.result.1 c.take-next.result.0 c.take-next.new.rows (λ x p s. c.take-next.ensures x p s) c.in_default.field-0 c.in_default.is)
+    (goes_on t o r c.loop-fault.reached c.loop-fault.rows c.loop-fault.invariant at one c.take-next.result.1 c.take-next.result.0 c.take-next.new.rows c.take-next.ensures c.in_default.field-0 c.in_default.is)
 
 pub returns : goal.returns
 returns c =
@@ -41,10 +41,10 @@ returns c =
           let none : found_next r ≡ Ok None = sym c.next.ensures.found ∙ ap view_next (w.in-Ok-None.is ∙ ap Ok w.in-Ok-None.field-0-is) in
           let there : w.place.result ≡ r.place = w.place.ensures ∙ ap (λ (x : Rest). x.place) (c.next.ensures.after ∙ stays_there r none) in
           read_is t o c.match-next.reached c.loop-fault.reached c.match-next.end w.ended-end.result w.reached-is w.end-is
-          (stops_at_end t o r c.loop-fault.reached c.loop-fault.rows c.loop-fault.invariant w.ended-end.result w.place.result none there (λ x p rows s. w.ended-end.ensures x p rows s))
+          (stops_at_end t o r c.loop-fault.reached c.loop-fault.rows c.loop-fault.invariant w.ended-end.result w.place.result none there w.ended-end.ensures)
       | in-Ok-Some+in-Err-outcome w ↦
           let at : At = record { found = plain w.in-Ok-Some.placed.record; place = w.in-Ok-Some.placed.place } in
           let one : found_next r ≡ Ok (Some at) = sym c.next.ensures.found ∙ ap view_next (w.in-Ok-Some.is ∙ ap Ok w.in-Ok-Some.field-0-is) in
           read_is t o c.match-next.reached w.take-next.result.0 c.match-next.end (Err (record { cause = w.in-Err-outcome.fault.cause; place = at.place })) w.reached-is (w.end-is ∙ ap Err w.at.ensures)
-          (stops_refused t o r c.loop-fault.reached c.loop-fault.rows c.loop-fault.invariant at one w.take-next.result.1 w.take-next.result.0 w.take-next.new.rows (λ x p s. w.take-next.ensures x p s) w.in-Err-outcome.fault w.in-Err-outcome.is)
+          (stops_refused t o r c.loop-fault.reached c.loop-fault.rows c.loop-fault.invariant at one w.take-next.result.1 w.take-next.result.0 w.take-next.new.rows w.take-next.ensures w.in-Err-outcome.fault w.in-Err-outcome.is)
     ]
