@@ -42,7 +42,7 @@ use Rattle.table.specs.declared.refusals.UnitRefusal.{UnitRefusal}
 use Rattle.table.specs.declared.refusals.UnitRefusal.TheVariants.{Book, Rows}
 use Rattle.book.proofs.Only.{only_figures}
 use Rattle.book.proofs.Settles.{settled_law}
-use Rattle.book.specs.Hours.{Prices, Offers, offers_by, PriceRows, row_by, rows_by, pay_in, ClosingLawBy, OpenTable, ClosedTable, SettledTable}
+use Rattle.book.specs.Hours.{Prices, Offers, offers_by, row_by, rows_by, pay_in, ClosingLawBy, OpenTable, ClosedTable, SettledTable}
 use Rattle.book.specs.Law.{EntriesJudgedFrom, ReadingsJudgedBy, RowsOf}
 use Rattle.book.specs.Taken.{priced_answer_in, next_priced, EntryTaken, PricedTaken, EntriesTaken, ReadingTaken, ReadingsTaken, ClosesBy, SettlesBy}
 use Rattle.book.specs.declared.closed.ClosedHour.{ClosedHour}

@@ -1,5 +1,5 @@
 -- What calls of an hour lead to, whatever their order.
-use Rattle.std.proofs.Common.{◌≡◌, ℕ, suc, ◌+◌, ◌<◌, ◌≤◌, List, [], ◌∷◌, ◌++◌, length, get_or, take, map, Some, Result, refl, sym, ap, ◌∙◌, subst, ⊎_elim, arith, below_more, set}
+use Rattle.std.proofs.Common.{◌≡◌, ℕ, ◌+◌, ◌<◌, ◌≤◌, List, [], ◌∷◌, ◌++◌, length, get_or, take, map, Some, Result, refl, sym, ap, ◌∙◌, subst, ⊎_elim, arith, below_more, set}
 use Rattle.std.proofs.lemmas.Bool.{cases_eq}
 use Rattle.std.proofs.lemmas.List.{length-map, get_or-map, get_or_default, get_or-set_same, get_or-set_other, take_more, take_all}
 use Rattle.std.specs.Borrow.{GName}
@@ -16,7 +16,7 @@ use Rattle.book.specs.declared.calls.CallAnswer.TheVariants.{Done}
 use Rattle.book.specs.declared.calls.Hour.{Hour}
 use Rattle.book.specs.declared.calls.HourCall.{HourCall}
 use Rattle.book.specs.declared.calls.Turn.{Turn}
-use Rattle.book.specs.declared.calls.Hour.TheVariants.{Open as OpenAt, Closed as ClosedAt, Settled as SettledAt}
+use Rattle.book.specs.declared.calls.Hour.TheVariants.{Closed as ClosedAt, Settled as SettledAt}
 use Rattle.book.specs.declared.closed.ClosedHour.{ClosedHour}
 use Rattle.book.specs.declared.settled.SettledHour.{SettledHour}
 

@@ -8,7 +8,6 @@ use Rattle.table.specs.declared.entries.Entry.TheVariants.{AddPlant, AddBuyer}
 use Rattle.table.specs.declared.readings.Reading.{Reading}
 use Rattle.table.specs.declared.readings.Reading.TheVariants.{Use}
 use Rattle.settling.specs.declared.header.Header.{Header}
-use Rattle.settling.specs.declared.rows.PriceRow.{PriceRow}
 use Rattle.book.specs.Hours.{Prices, Offers, offers_by, PriceRows, rows_by, IsSettled}
 use Rattle.book.specs.Taken.{next_priced}
 use Rattle.book.specs.declared.settled.SettledHour.{SettledHour}
