@@ -42,7 +42,7 @@ use Rattle.table.specs.declared.refusals.UnitRefusal.{UnitRefusal}
 use Rattle.table.specs.declared.refusals.UnitRefusal.TheVariants.{Book, Rows}
 use Rattle.book.proofs.Only.{only_figures}
 use Rattle.book.proofs.Settles.{settled_law}
-use Rattle.book.specs.Hours.{Prices, Offers, offers_by, row_by, rows_by, pay_in, ClosingLawBy, OpenTable, ClosedTable, SettledTable}
+use Rattle.book.specs.Hours.{Prices, Offers, offers_by, row_by, rows_by, pay_in, ClosingLawBy, OpenTable, ClosedTable, SettledTable, IsOpen, IsClosed}
 use Rattle.book.specs.Law.{EntriesJudgedFrom, ReadingsJudgedBy, RowsOf}
 use Rattle.book.specs.Taken.{priced_answer_in, next_priced, EntryTaken, PricedTaken, EntriesTaken, ReadingTaken, ReadingsTaken, ClosesBy, SettlesBy}
 use Rattle.book.specs.declared.closed.ClosedHour.{ClosedHour}
@@ -248,76 +248,69 @@ readings_follow more offers h rs t before after c a = record {
   others = a.others;
 }
 
+-- a call moves an hour on as it moves tables on
+open_moved : (next_h : List Entry → List Entry) (after : Table → Table) → ((h : List Entry) (t : Table) → OpenTable h t → OpenTable (next_h h) (after t)) → (hour next : OpenHour) → next.book.now.table ≡ after hour.book.now.table → next.header ≡ hour.header → (given : Header) (h : List Entry) → IsOpen given h hour → IsOpen given (next_h h) next
+open_moved next_h after moves hour next led header given h o = record {
+  header = header ∙ o.header;
+  table = subst (OpenTable (next_h h)) (sym led) (moves h hour.book.now.table o.table);
+}
+
+closed_moved : (next_rs : List Entry → List Reading → List Reading) (after : Table → Table) → ((offers : Offers) (h : List Entry) (rs : List Reading) (t : Table) → ClosedTable offers h rs t → ClosedTable offers h (next_rs h rs) (after t)) → (hour next : ClosedHour) → next.book.now.table ≡ after hour.book.now.table → next.header ≡ hour.header → (given : Header) (offers : Offers) (h : List Entry) (rs : List Reading) → IsClosed given offers h rs hour → IsClosed given offers h (next_rs h rs) next
+closed_moved next_rs after moves hour next led header given offers h rs c = record {
+  header = header ∙ c.header;
+  table = subst (ClosedTable offers h (next_rs h rs)) (sym led) (moves offers h rs hour.book.now.table c.table);
+}
+
 -- what each call on an hour promises
-module _ (entry : Entry) (result : Result ℕ BookRefusal) (hour next : OpenHour) where
-  pub entry_taken : result ≡ answer_of entry hour.book.now.table → next.book.now.table ≡ after_entry entry hour.book.now.table → next.header ≡ hour.header → next.book.ghost_name ≡ hour.book.ghost_name → EntryTaken entry result hour next
-  entry_taken answer after header book = record {
-    answer = answer;
-    after = after;
-    header = header;
-    book = book;
-    follows = λ given h o. answer ∙ answer_same entry h hour.book.now.table o.table.stands;
-    stands = λ given h o. record {
-      header = header ∙ o.header;
-      table = subst (OpenTable (next_history entry h)) (sym after) (entry_open entry h hour.book.now.table o.table);
-    };
-  }
+pub entry_taken : (entry : Entry) (result : Result ℕ BookRefusal) (hour next : OpenHour) → result ≡ answer_of entry hour.book.now.table → next.book.now.table ≡ after_entry entry hour.book.now.table → next.header ≡ hour.header → next.book.ghost_name ≡ hour.book.ghost_name → EntryTaken entry result hour next
+entry_taken entry result hour next answer after header book = record {
+  answer = answer;
+  after = after;
+  header = header;
+  book = book;
+  follows = λ given h o. answer ∙ answer_same entry h hour.book.now.table o.table.stands;
+  stands = open_moved (next_history entry) (after_entry entry) (entry_open entry) hour next after header;
+}
 
-module _ {R : Type 0} (plant declared internal : ℕ) (rows : Result R CurveRefusal) (result : Result (ℕ × R) UnitRefusal) (hour next : OpenHour) where
-  pub priced_taken : result ≡ priced_answer plant declared internal rows hour.book.now.table → next.book.now.table ≡ after_priced plant declared internal rows hour.book.now.table → next.header ≡ hour.header → next.book.ghost_name ≡ hour.book.ghost_name → PricedTaken plant declared internal rows result hour next
-  priced_taken answer after header book = record {
-    answer = answer;
-    after = after;
-    header = header;
-    book = book;
-    follows = λ given h o. answer ∙ priced_follows plant declared internal rows h hour.book.now.table o.table;
-    stands = λ given h o. record {
-      header = header ∙ o.header;
-      table = subst (OpenTable (next_priced plant declared internal rows h)) (sym after) (priced_open plant declared internal rows h hour.book.now.table o.table);
-    };
-  }
+pub priced_taken : {R : Type 0} (plant declared internal : ℕ) (rows : Result R CurveRefusal) (result : Result (ℕ × R) UnitRefusal) (hour next : OpenHour) → result ≡ priced_answer plant declared internal rows hour.book.now.table → next.book.now.table ≡ after_priced plant declared internal rows hour.book.now.table → next.header ≡ hour.header → next.book.ghost_name ≡ hour.book.ghost_name → PricedTaken plant declared internal rows result hour next
+priced_taken plant declared internal rows result hour next answer after header book = record {
+  answer = answer;
+  after = after;
+  header = header;
+  book = book;
+  follows = λ given h o. answer ∙ priced_follows plant declared internal rows h hour.book.now.table o.table;
+  stands = open_moved (next_priced plant declared internal rows) (after_priced plant declared internal rows) (priced_open plant declared internal rows) hour next after header;
+}
 
-module _ (entries : List Entry) (before after_all : Answers) (hour next : OpenHour) where
-  pub entries_taken : next.book.now.table ≡ after_entries entries hour.book.now.table → EntriesAnswered entries hour.book.now.table before after_all → next.header ≡ hour.header → next.book.ghost_name ≡ hour.book.ghost_name → EntriesTaken entries before after_all hour next
-  entries_taken after answered header book = record {
-    after = after;
-    answered = answered;
-    header = header;
-    book = book;
-    follows = λ given h o. entries_follow entries h hour.book.now.table before after_all o.table answered;
-    stands = λ given h o. record {
-      header = header ∙ o.header;
-      table = subst (OpenTable (accepted h entries)) (sym after) (entries_open entries h hour.book.now.table o.table);
-    };
-  }
+pub entries_taken : (entries : List Entry) (before after_all : Answers) (hour next : OpenHour) → next.book.now.table ≡ after_entries entries hour.book.now.table → EntriesAnswered entries hour.book.now.table before after_all → next.header ≡ hour.header → next.book.ghost_name ≡ hour.book.ghost_name → EntriesTaken entries before after_all hour next
+entries_taken entries before after_all hour next after answered header book = record {
+  after = after;
+  answered = answered;
+  header = header;
+  book = book;
+  follows = λ given h o. entries_follow entries h hour.book.now.table before after_all o.table answered;
+  stands = open_moved (λ h. accepted h entries) (after_entries entries) (entries_open entries) hour next after header;
+}
 
-module _ (reading : Reading) (result : Result ℕ BookRefusal) (hour next : ClosedHour) where
-  pub reading_taken : result ≡ reading_answer reading hour.book.now.table → next.book.now.table ≡ after_reading reading hour.book.now.table → next.header ≡ hour.header → next.book.ghost_name ≡ hour.book.ghost_name → ReadingTaken reading result hour next
-  reading_taken answer after header book = record {
-    answer = answer;
-    after = after;
-    header = header;
-    book = book;
-    follows = λ given offers h rs c. answer ∙ reading_answer_same reading h hour.book.now.table c.table.stands;
-    stands = λ given offers h rs c. record {
-      header = header ∙ c.header;
-      table = subst (ClosedTable offers h (next_readings (view_in h) reading rs)) (sym after) (reading_closed reading offers h rs hour.book.now.table c.table);
-    };
-  }
+pub reading_taken : (reading : Reading) (result : Result ℕ BookRefusal) (hour next : ClosedHour) → result ≡ reading_answer reading hour.book.now.table → next.book.now.table ≡ after_reading reading hour.book.now.table → next.header ≡ hour.header → next.book.ghost_name ≡ hour.book.ghost_name → ReadingTaken reading result hour next
+reading_taken reading result hour next answer after header book = record {
+  answer = answer;
+  after = after;
+  header = header;
+  book = book;
+  follows = λ given offers h rs c. answer ∙ reading_answer_same reading h hour.book.now.table c.table.stands;
+  stands = closed_moved (λ h. next_readings (view_in h) reading) (after_reading reading) (reading_closed reading) hour next after header;
+}
 
-module _ (readings : List Reading) (before after_all : Answers) (hour next : ClosedHour) where
-  pub readings_taken : next.book.now.table ≡ after_readings readings hour.book.now.table → ReadingsAnswered readings hour.book.now.table before after_all → next.header ≡ hour.header → next.book.ghost_name ≡ hour.book.ghost_name → ReadingsTaken readings before after_all hour next
-  readings_taken after answered header book = record {
-    after = after;
-    answered = answered;
-    header = header;
-    book = book;
-    follows = λ given offers h rs c. readings_follow readings offers h rs hour.book.now.table before after_all c.table answered;
-    stands = λ given offers h rs c. record {
-      header = header ∙ c.header;
-      table = subst (ClosedTable offers h (accepted_readings (view_in h) rs readings)) (sym after) (readings_closed readings offers h rs hour.book.now.table c.table);
-    };
-  }
+pub readings_taken : (readings : List Reading) (before after_all : Answers) (hour next : ClosedHour) → next.book.now.table ≡ after_readings readings hour.book.now.table → ReadingsAnswered readings hour.book.now.table before after_all → next.header ≡ hour.header → next.book.ghost_name ≡ hour.book.ghost_name → ReadingsTaken readings before after_all hour next
+readings_taken readings before after_all hour next after answered header book = record {
+  after = after;
+  answered = answered;
+  header = header;
+  book = book;
+  follows = λ given offers h rs c. readings_follow readings offers h rs hour.book.now.table before after_all c.table answered;
+  stands = closed_moved (λ h rs. accepted_readings (view_in h) rs readings) (after_readings readings) (readings_closed readings) hour next after header;
+}
 
 pub closes : {O P : Type 0} (prices1 : O → Prices) (offers1 : List O) (prices2 : P → Prices) (offers2 : List P) (hour : OpenHour) (next : ClosedHour) → Closed prices1 offers1 prices2 offers2 hour.book.now.table next.book.now.table → next.header ≡ hour.header → ClosesBy (offers_by prices1 offers1 prices2 offers2) hour next
 closes prices1 offers1 prices2 offers2 hour next closed header given h o = record {

@@ -135,7 +135,8 @@ impl<'b> Hour<'b> {
 }
 
 /// Opens an empty hour, whatever the book held, and makes calls in turn, in whatever order: one that the hour doesn't take
-/// in its state changes nothing. What each is told is written beside it.
+/// in its state changes nothing. What each is told is written beside it. When an open or a closed hour is let go, the book
+/// holds what it held.
 pub fn run_calls<'b, O: Offer, G: Offer, P: Offer, C: Curve, H: Offer>(
     book: &'b mut Book,
     header: Header,
