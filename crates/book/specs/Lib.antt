@@ -3,3 +3,4 @@ pub mod Law
 pub mod Hours
 pub mod Taken
 pub mod States
+pub mod Runs

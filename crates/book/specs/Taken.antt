@@ -2,6 +2,8 @@
 -- hour stood for: the answer follows from them, and the hour then stands for them with the call.
 use Rattle.std.specs.Prelude.{◌≡◌, ℕ, List, [], Ok, Err, Result}
 use Rattle.curves.specs.declared.refusals.CurveRefusal.{CurveRefusal}
+use Rattle.settling.specs.Figures.{Pay}
+use Rattle.settling.specs.Settled.{Settled}
 use Rattle.settling.specs.declared.header.Header.{Header}
 use Rattle.table.specs.Effects.{answer_of, after_entry, after_entries, priced_answer, after_priced, unless}
 use Rattle.table.specs.Entries.{rows}
@@ -12,6 +14,7 @@ use Rattle.table.specs.Turns.{Answers, EntriesAnswered, ReadingsAnswered}
 use Rattle.table.specs.declared.entries.Entry.{Entry}
 use Rattle.table.specs.declared.entries.Entry.TheVariants.{AddCompetitive}
 use Rattle.table.specs.declared.readings.Reading.{Reading}
+use Rattle.table.specs.declared.records.Table.{Table}
 use Rattle.table.specs.declared.refusals.BookRefusal.{BookRefusal}
 use Rattle.table.specs.declared.refusals.UnitRefusal.{UnitRefusal}
 use Rattle.table.specs.declared.refusals.UnitRefusal.TheVariants.{Book, Rows}
@@ -77,6 +80,10 @@ pub record ReadingsTaken (readings : List Reading) (before after_all : Answers) 
   pub book : next.book.ghost_name ≡ hour.book.ghost_name
   pub follows : (header : Header) (offers : Offers) (h : List Entry) (rs : List Reading) → IsClosed header offers h rs hour → ReadingsJudgedBy h readings before after_all
   pub stands : (header : Header) (offers : Offers) (h : List Entry) (rs : List Reading) → IsClosed header offers h rs hour → IsClosed header offers h (accepted_readings (view_in h) rs readings) next
+
+-- what settling writes of a closed hour, by what units are paid under its header
+abbrev pub SettledFrom : (Header → Pay) → ClosedHour → Table → Type 0
+SettledFrom pay hour t = Settled hour.header (pay hour.header) hour.book.now.table t
 
 -- an open hour is closed by offers, and a closed one settled by price rows
 abbrev pub ClosesBy : Offers → OpenHour → ClosedHour → Type 0

@@ -1,9 +1,8 @@
 // The closed hour: it takes readings and settling.
 ghost use Rattle.std.specs.Prelude.{◌≡◌};
 ghost use Rattle.settling.specs.Figures.{pay_by};
-ghost use Rattle.settling.specs.Settled.{Settled};
 ghost use Rattle.book.specs.Hours.{rows_by};
-ghost use Rattle.book.specs.Taken.{ReadingTaken, ReadingsTaken, SettlesBy};
+ghost use Rattle.book.specs.Taken.{ReadingTaken, ReadingsTaken, SettlesBy, SettledFrom};
 
 use crate::book::Book;
 use crate::settled::SettledHour;
@@ -73,7 +72,7 @@ impl<'b> ClosedHour<'b> {
         rows: &[PriceRow<O, C>],
         offers: &[G],
     )
-        ensures settled { Settled self.old.header (pay_by O.Curve.prices C.Curve.prices rows.now G.Curve.prices offers.now self.old.header) self.old.book.now.table self.new.book.now.table }
+        ensures settled { SettledFrom (pay_by O.Curve.prices C.Curve.prices rows.now G.Curve.prices offers.now) self.old self.new.book.now.table }
         ensures book { self.new.book.ghost_name ≡ self.old.book.ghost_name }
     {
         settle(&mut self.book.table, &self.header, rows, offers);
@@ -87,7 +86,7 @@ impl<'b> ClosedHour<'b> {
         offers: &[G],
     ) -> SettledHour<'b>
         ensures law { SettlesBy (rows_by O.Curve.prices C.Curve.prices rows.now G.Curve.prices offers.now) self.entry result }
-        ensures settled { Settled self.entry.header (pay_by O.Curve.prices C.Curve.prices rows.now G.Curve.prices offers.now self.entry.header) self.entry.book.now.table result.book.now.table }
+        ensures settled { SettledFrom (pay_by O.Curve.prices C.Curve.prices rows.now G.Curve.prices offers.now) self.entry result.book.now.table }
     {
         self.write_figures(rows, offers);
         let book = self.book;

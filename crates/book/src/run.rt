@@ -4,9 +4,9 @@ ghost use Rattle.std.specs.Borrow.{sem, follows_so};
 ghost use mathlib.Core.Option.{none};
 ghost use Rattle.book.specs.contracts.book.Book.{the_row};
 ghost use Rattle.settling.specs.Figures.{pay_by};
-ghost use Rattle.table.specs.ClosingLaw.{ClosingLaw};
-ghost use Rattle.book.specs.Hours.{offers_by, rows_by, IsOpen, IsClosed, IsSettled};
-ghost use Rattle.book.specs.Law.{entered, metered, EntriesJudged, ReadingsJudged, RowsOf, SettledLaw, OnlyFigures};
+ghost use Rattle.book.specs.Hours.{rows_by, IsOpen};
+ghost use Rattle.book.specs.Law.{entered, EntriesJudged, ReadingsJudged, RowsOf};
+ghost use Rattle.book.specs.Runs.{entries_in, RunClosingLaw, RunSettledLaw, RunOnlyFigures, RunClosed, RunSettled};
 
 use crate::book::Book;
 use crate::closed::ClosedHour;
@@ -55,8 +55,8 @@ pub fn run_closed<'b, O: Offer, G: Offer>(
 ) -> ClosedHour<'b>
     ensures judged { EntriesJudged calls.now.entries.now entry_answers.old entry_answers.new }
     ensures read { ReadingsJudged calls.now.entries.now calls.now.readings.now reading_answers.old reading_answers.new }
-    ensures law { ClosingLaw O.Curve.prices calls.now.offers.now G.Curve.prices calls.now.guaranteed.now (entered calls.now.entries.now) result.book.now.table }
-    ensures stands { IsClosed header (offers_by O.Curve.prices calls.now.offers.now G.Curve.prices calls.now.guaranteed.now) (entered calls.now.entries.now) (metered calls.now.entries.now calls.now.readings.now) result }
+    ensures law { RunClosingLaw O.Curve.prices G.Curve.prices calls.now result.book.now.table }
+    ensures stands { RunClosed O.Curve.prices G.Curve.prices calls.now header result }
     ensures book { result.book.ghost_name ≡ book.entry.ghost_name }
 {
     let open = run_open(book, header, calls.entries, entry_answers);
@@ -78,10 +78,10 @@ pub fn run_settled<'b, O: Offer, G: Offer, P: Offer, C: Curve, H: Offer>(
 ) -> SettledHour<'b>
     ensures judged { EntriesJudged calls.now.entries.now entry_answers.old entry_answers.new }
     ensures read { ReadingsJudged calls.now.entries.now calls.now.readings.now reading_answers.old reading_answers.new }
-    ensures law { SettledLaw O.Curve.prices calls.now.offers.now G.Curve.prices calls.now.guaranteed.now header (pay_by P.Curve.prices C.Curve.prices rows.now H.Curve.prices offers.now header) (entered calls.now.entries.now) (metered calls.now.entries.now calls.now.readings.now) result.book.now.table }
-    ensures rows { RowsOf (entered calls.now.entries.now) result.book.now.table }
-    ensures only { OnlyFigures O.Curve.prices calls.now.offers.now G.Curve.prices calls.now.guaranteed.now header (pay_by P.Curve.prices C.Curve.prices rows.now H.Curve.prices offers.now header) (entered calls.now.entries.now) (metered calls.now.entries.now calls.now.readings.now) result.book.now.table }
-    ensures stands { IsSettled header (offers_by O.Curve.prices calls.now.offers.now G.Curve.prices calls.now.guaranteed.now) (rows_by P.Curve.prices C.Curve.prices rows.now H.Curve.prices offers.now) (entered calls.now.entries.now) (metered calls.now.entries.now calls.now.readings.now) result }
+    ensures law { RunSettledLaw O.Curve.prices G.Curve.prices calls.now header (pay_by P.Curve.prices C.Curve.prices rows.now H.Curve.prices offers.now header) result.book.now.table }
+    ensures rows { RowsOf (entries_in calls.now) result.book.now.table }
+    ensures only { RunOnlyFigures O.Curve.prices G.Curve.prices calls.now header (pay_by P.Curve.prices C.Curve.prices rows.now H.Curve.prices offers.now header) result.book.now.table }
+    ensures stands { RunSettled O.Curve.prices G.Curve.prices calls.now header (rows_by P.Curve.prices C.Curve.prices rows.now H.Curve.prices offers.now) result }
     ensures* book { sem 𝓛 (follows_so the_row the_row book.entry.ghost_name none (λ _ _. ⊤) (λ v. v ≡ result.book.now)) }
 {
     let mut hour = run_closed(book, header, calls, entry_answers, reading_answers);

@@ -1,13 +1,25 @@
--- What a book holds once the hour of a list of calls is let go.
+-- What a book holds once the hour of lists of calls is let go.
 use Rattle.std.specs.Prelude.{List, [], map}
 use Rattle.settling.specs.declared.header.Header.{Header}
 use Rattle.table.specs.declared.records.Table.{Table}
-use Rattle.book.specs.Hours.{OpenTable, ClosedTable}
+use Rattle.book.specs.Hours.{Prices, PriceRows, OpenTable, ClosedTable, SettledTable}
+use Rattle.book.specs.Runs.{entries_in, readings_in, offers_in}
 use Rattle.book.specs.States.{Call, State, state_after}
 use Rattle.book.specs.States.State.{Open, Closed, Settled}
 use Rattle.book.specs.declared.calls.HourCall.{HourCall}
 use Rattle.book.specs.declared.calls.Turn.{Turn}
+use Rattle.book.specs.declared.run.Calls.{Calls}
 
+-- of lists that are in the order of an hour
+abbrev pub ClosedLeft : {O G : Type 0} → (O → Prices) → (G → Prices) → Calls O G → Table → Type 0
+ClosedLeft prices1 prices2 calls t =
+    ClosedTable (offers_in prices1 prices2 calls) (entries_in calls) (readings_in calls) t
+
+abbrev pub SettledLeft : {O G : Type 0} → (O → Prices) → (G → Prices) → Calls O G → Header → PriceRows → Table → Type 0
+SettledLeft prices1 prices2 calls header rows t =
+    SettledTable header (offers_in prices1 prices2 calls) rows (entries_in calls) (readings_in calls) t
+
+-- of a list in whatever order
 abbrev pub state_of : {O G P C H : Type 0} → (HourCall O G P C H → Call) → List (Turn O G P C H) → State
 state_of by turns = state_after (map (λ turn. by turn.call) turns) (Open [])
 

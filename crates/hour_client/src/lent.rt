@@ -1,8 +1,9 @@
 // What a book holds once its hour is let go: what the hour held.
 ghost use Rattle.std.specs.Prelude.{◌≡◌};
-ghost use Rattle.book.specs.Hours.{offers_by, rows_by, IsClosed, OpenTable, ClosedTable, SettledTable};
-ghost use Rattle.book.specs.Law.{entered, metered};
-ghost use Rattle.hour_client.specs.Lent.{Left, state_of};
+ghost use Rattle.book.specs.Hours.{rows_by, OpenTable};
+ghost use Rattle.book.specs.Law.{entered};
+ghost use Rattle.book.specs.Runs.{RunClosed};
+ghost use Rattle.hour_client.specs.Lent.{ClosedLeft, SettledLeft, Left, state_of};
 ghost use Rattle.book.specs.States.{call_by};
 
 use book::{
@@ -25,7 +26,7 @@ fn close<'b, O: Offer, G: Offer>(
     header: Header,
     calls: &Calls<O, G>,
 ) -> ClosedHour<'b>
-    ensures stands { IsClosed header (offers_by O.Curve.prices calls.now.offers.now G.Curve.prices calls.now.guaranteed.now) (entered calls.now.entries.now) (metered calls.now.entries.now calls.now.readings.now) result }
+    ensures stands { RunClosed O.Curve.prices G.Curve.prices calls.now header result }
     ensures book { result.book.ghost_name ≡ book.entry.ghost_name }
 {
     let mut open = book.open(header);
@@ -41,14 +42,14 @@ pub(crate) fn closed_by_calls<O: Offer, G: Offer>(
     header: Header,
     calls: &Calls<O, G>,
 )
-    ensures { ClosedTable (offers_by O.Curve.prices calls.now.offers.now G.Curve.prices calls.now.guaranteed.now) (entered calls.now.entries.now) (metered calls.now.entries.now calls.now.readings.now) book.new.table }
+    ensures { ClosedLeft O.Curve.prices G.Curve.prices calls.now book.new.table }
 {
     let _hour = close(book, header, calls);
 }
 
 /// Makes the list of calls of a closed hour, and lets the hour go.
 pub(crate) fn closed<O: Offer, G: Offer>(book: &mut Book, header: Header, calls: &Calls<O, G>)
-    ensures { ClosedTable (offers_by O.Curve.prices calls.now.offers.now G.Curve.prices calls.now.guaranteed.now) (entered calls.now.entries.now) (metered calls.now.entries.now calls.now.readings.now) book.new.table }
+    ensures { ClosedLeft O.Curve.prices G.Curve.prices calls.now book.new.table }
 {
     let _hour = run_closed(book, header, calls, &mut [], &mut []);
 }
@@ -61,7 +62,7 @@ pub(crate) fn settled<O: Offer, G: Offer, P: Offer, C: Curve, H: Offer>(
     rows: &[PriceRow<P, C>],
     offers: &[H],
 )
-    ensures { SettledTable header (offers_by O.Curve.prices calls.now.offers.now G.Curve.prices calls.now.guaranteed.now) (rows_by P.Curve.prices C.Curve.prices rows.now H.Curve.prices offers.now) (entered calls.now.entries.now) (metered calls.now.entries.now calls.now.readings.now) book.new.table }
+    ensures { SettledLeft O.Curve.prices G.Curve.prices calls.now header (rows_by P.Curve.prices C.Curve.prices rows.now H.Curve.prices offers.now) book.new.table }
 {
     let hour = run_settled(book, header, calls, &mut [], &mut [], rows, offers);
     hour.release();
