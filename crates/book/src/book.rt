@@ -22,7 +22,6 @@ impl Book {
         Book { table }
     }
 
-    // That the header is the one given stands in each contract of what opens an hour: no plainer as a record.
     /// Opens an empty hour, whatever the book held.
     #[tactic(auto, using(crate::proofs::Hours::empty_open))]
     pub fn open<'b>(&'b mut self, header: Header) -> OpenHour<'b>

@@ -17,8 +17,7 @@ pub struct ClosedHour<'b> {
     pub(crate) header: Header,
 }
 
-// The methods take a reading's parameters one by one: they are the public calls. That the header stays stands in the
-// contract that isn't `ReadingTaken`'s, as in the open hour's.
+// The methods take a reading's parameters one by one: they are the public calls.
 impl<'b> ClosedHour<'b> {
     /// The header by which the hour will be settled.
     pub fn header(&self) -> Header
@@ -66,7 +65,7 @@ impl<'b> ClosedHour<'b> {
         self.book.table.read_all(readings, answers);
     }
 
-    // Writes every figure where the hour lies.
+    // Writes every figure where the hour lies. Who lent the book can then say what it holds.
     pub(crate) fn write_figures<O: Offer, C: Curve, G: Offer>(
         &mut self,
         rows: &[PriceRow<O, C>],

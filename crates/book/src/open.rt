@@ -19,8 +19,7 @@ pub struct OpenHour<'b> {
 }
 
 // The methods take an entry's parameters one by one, and closing the offers of both groups, though some travel together:
-// they are the public calls. `feeds` stays a number, since callers may give any. That the header stays stands in each
-// public contract that isn't `EntryTaken`'s: a record of that clause alone would be no plainer.
+// they are the public calls. `feeds` stays a number, since callers may give any.
 impl<'b> OpenHour<'b> {
     /// The header by which the hour will be settled.
     pub fn header(&self) -> Header
