@@ -14,6 +14,7 @@ use Rattle.settling.specs.declared.header.Header.{Header}
 use Rattle.settling.specs.declared.rows.PriceRow.{PriceRow}
 use Rattle.table.proofs.Accepted.{next_proper, accepted_proper}
 use Rattle.table.proofs.Empty.{empty_stands, empty_unread}
+use Rattle.table.proofs.JudgedRows.{entry_judged, reading_judged}
 use Rattle.table.proofs.Kept.{entry_unread, closed_stands, closed_metered, reading_stands, reading_law}
 use Rattle.table.proofs.Laws.{closing_law}
 use Rattle.table.proofs.Meters.{reading_metered}
@@ -29,6 +30,7 @@ use Rattle.table.specs.Places.{buyer_at}
 use Rattle.table.specs.Rows.{UnitTable}
 use Rattle.table.specs.Metered.{Metered, next_readings, accepted_readings}
 use Rattle.table.specs.Readings.{reading_answer, after_reading, after_readings}
+use Rattle.table.specs.RowsApply.{EntryJudged, ReadingJudged}
 use Rattle.table.specs.Turns.{Answers, EntriesAnswered, ReadingsAnswered}
 use Rattle.table.specs.declared.entries.Entry.{Entry}
 use Rattle.table.specs.declared.entries.Entry.TheVariants.{AddPlant, AddCompetitive}
@@ -269,6 +271,7 @@ entry_taken entry result hour next answer after header book = record {
   header = header;
   book = book;
   follows = λ given h o. answer ∙ answer_same entry h hour.book.now.table o.table.stands;
+  judged = λ given h o. subst (EntryJudged entry h) (sym (answer ∙ answer_same entry h hour.book.now.table o.table.stands)) (entry_judged entry h);
   stands = open_moved (next_history entry) (after_entry entry) (entry_open entry) hour next after header;
 }
 
@@ -299,6 +302,7 @@ reading_taken reading result hour next answer after header book = record {
   header = header;
   book = book;
   follows = λ given offers h rs c. answer ∙ reading_answer_same reading h hour.book.now.table c.table.stands;
+  judged = λ given offers h rs c. subst (ReadingJudged reading h) (sym (answer ∙ reading_answer_same reading h hour.book.now.table c.table.stands)) (reading_judged reading h);
   stands = closed_moved (λ h. next_readings (view_in h) reading) (after_reading reading) (reading_closed reading) hour next after header;
 }
 

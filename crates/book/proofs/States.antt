@@ -6,7 +6,8 @@ use Rattle.std.specs.Borrow.{GName}
 use Rattle.settling.specs.declared.header.Header.{Header}
 use Rattle.table.specs.declared.readings.Reading.{Reading}
 use Rattle.table.specs.declared.refusals.BookRefusal.{BookRefusal}
-use Rattle.book.specs.States.{Call, State, next_state, told, answer_by, state_after, HourOf, Borrows, CallMade, CallsMade, turn_at}
+use Rattle.book.proofs.Counting.{calls_count}
+use Rattle.book.specs.States.{Call, State, next_state, told, answer_by, state_after, HourOf, StateCounts, Borrows, CallMade, CallsMade, turn_at}
 use Rattle.book.specs.States.Call.{Read, Settle}
 use Rattle.book.specs.States.State.{Open, Closed, Settled}
 use Rattle.book.specs.Hours.{PriceRows}
@@ -16,7 +17,7 @@ use Rattle.book.specs.declared.calls.CallAnswer.TheVariants.{Done}
 use Rattle.book.specs.declared.calls.Hour.{Hour}
 use Rattle.book.specs.declared.calls.HourCall.{HourCall}
 use Rattle.book.specs.declared.calls.Turn.{Turn}
-use Rattle.book.specs.declared.calls.Hour.TheVariants.{Closed as ClosedAt, Settled as SettledAt}
+use Rattle.book.specs.declared.calls.Hour.TheVariants.{Open as OpenAt, Closed as ClosedAt, Settled as SettledAt}
 use Rattle.book.specs.declared.closed.ClosedHour.{ClosedHour}
 use Rattle.book.specs.declared.settled.SettledHour.{SettledHour}
 
@@ -53,6 +54,18 @@ module _ (rows : PriceRows) (hour : ClosedHour) (next : SettledHour) (law : Sett
 pub state_after-append : (cs more : List Call) (s : State) → state_after (cs ++ more) s ≡ state_after more (state_after cs s)
 state_after-append [] more s = refl
 state_after-append (c ∷ cs) more s = state_after-append cs more (next_state c s)
+
+-- an hour that stands in a state has accepted what led to it
+state_counts : (header : Header) (s : State) (hour : Hour) → HourOf header s hour → StateCounts s
+state_counts header (Open h) (OpenAt hour) at = calls_count h [] at.table.proper
+state_counts header (Open h) (ClosedAt hour) at = absurd at
+state_counts header (Open h) (SettledAt hour) at = absurd at
+state_counts header (Closed offers h rs) (OpenAt hour) at = absurd at
+state_counts header (Closed offers h rs) (ClosedAt hour) at = calls_count h rs at.table.proper
+state_counts header (Closed offers h rs) (SettledAt hour) at = absurd at
+state_counts header (Settled offers rows h rs) (OpenAt hour) at = absurd at
+state_counts header (Settled offers rows h rs) (ClosedAt hour) at = absurd at
+state_counts header (Settled offers rows h rs) (SettledAt hour) at = calls_count h rs at.table.proper
 
 -- the first calls of a list are made in turn, on the hour that stood there first
 pub record MadeTo {O G P C H : Type 0} (by : HourCall O G P C H → Call) (header : Header) (n : ℕ) (before after : List (Turn O G P C H)) (first hour : Hour) : Type 0 where
@@ -118,8 +131,12 @@ module _ {O G P C H : Type 0} (by : HourCall O G P C H → Call) (header : Heade
   made_none first at = record { stands = at; answers = λ i lt. absurd (omega arith); calls = λ i. refl; book = λ name borrowed. borrowed }
 
   pub made_all : (n : ℕ) (after : List (Turn O G P C H)) (first hour : Hour) → length before ≤ n → MadeTo by header n before after first hour → CallsMade by header before after hour
-  made_all n after first hour all m = record {
-    stands = subst (λ cs. HourOf header (state_after cs (Open [])) hour) (take_all n calls (omega (arith, length-map before (λ (turn : Turn O G P C H). by turn.call)))) m.stands;
-    answers = λ i lt. m.answers i (omega arith);
-    calls = m.calls;
-  }
+  made_all n after first hour all m =
+      let whole = take_all n calls (omega (arith, length-map before (λ (turn : Turn O G P C H). by turn.call))) in
+      let stands = subst (λ cs. HourOf header (state_after cs (Open [])) hour) whole m.stands in
+      record {
+        stands = stands;
+        answers = λ i lt. m.answers i (omega arith);
+        calls = m.calls;
+        counts = state_counts header (state_after calls (Open [])) hour stands;
+      }

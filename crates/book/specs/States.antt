@@ -9,6 +9,7 @@ use Rattle.table.specs.declared.entries.Entry.{Entry}
 use Rattle.table.specs.declared.entries.Entry.TheVariants.{AddPlant}
 use Rattle.table.specs.declared.readings.Reading.{Reading}
 use Rattle.table.specs.declared.refusals.BookRefusal.{BookRefusal}
+use Rattle.book.specs.Counts.{CallsCount}
 use Rattle.book.specs.Hours.{Prices, Offers, offers_by, PriceRows, rows_by, IsOpen, IsClosed, IsSettled}
 use Rattle.book.specs.declared.calls.CallAnswer.{CallAnswer}
 use Rattle.book.specs.declared.calls.CallAnswer.TheVariants.{Number, Done, Refused, OutOfTurn}
@@ -69,6 +70,12 @@ HourOf header (Closed offers h rs) (ClosedAt hour) = IsClosed header offers h rs
 HourOf header (Settled offers rows h rs) (SettledAt hour) = IsSettled header offers rows h rs hour
 HourOf header s hour = ⊥
 
+-- what the calls that led to a state count for
+abbrev pub StateCounts : State → Type 0
+StateCounts (Open h) = CallsCount h []
+StateCounts (Closed offers h rs) = CallsCount h rs
+StateCounts (Settled offers rows h rs) = CallsCount h rs
+
 -- an open or a closed hour borrows the book of this name
 abbrev pub Borrows : GName → Hour → Type 0
 Borrows name (OpenAt hour) = hour.book.ghost_name ≡ name
@@ -87,8 +94,9 @@ abbrev pub turn_at : {O G P C H : Type 0} → List (Turn O G P C H) → ℕ → 
 turn_at turns i = slice_index_or turns i (record { call = EnterCall (AddPlant 0); answer = None })
 
 -- The calls of a list are made in turn on an empty hour of a header: the hour stands where they lead, each call is told what
--- follows from those before it, and the calls themselves stay.
+-- follows from those before it, and the calls themselves stay. What the accepted ones count for is said of the list alone.
 pub record CallsMade {O G P C H : Type 0} (by : HourCall O G P C H → Call) (header : Header) (before after : List (Turn O G P C H)) (hour : Hour) : Type 0 where
   pub stands : HourOf header (state_after (map (λ turn. by turn.call) before) (Open [])) hour
   pub answers : (i : ℕ) → i < length before → (turn_at after i).answer ≡ Some (told (by (turn_at before i).call) (state_after (take i (map (λ turn. by turn.call) before)) (Open [])))
   pub calls : (i : ℕ) → (turn_at after i).call ≡ (turn_at before i).call
+  pub counts : StateCounts (state_after (map (λ turn. by turn.call) before) (Open []))

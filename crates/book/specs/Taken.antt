@@ -1,5 +1,5 @@
 -- Calls on an hour: what one answers, what its table then holds, and that header and book stay. And by whatever calls the
--- hour stood for: the answer follows from them, and the hour then stands for them with the call.
+-- hour stood for: the answer follows from them, by the table of refusals, and the hour then stands for them with the call.
 use Rattle.std.specs.Prelude.{◌≡◌, ℕ, List, [], Ok, Err, Result}
 use Rattle.curves.specs.declared.refusals.CurveRefusal.{CurveRefusal}
 use Rattle.settling.specs.Figures.{Pay}
@@ -10,6 +10,7 @@ use Rattle.table.specs.Entries.{rows}
 use Rattle.table.specs.History.{view_in, number_in, answer_in, next_history, accepted}
 use Rattle.table.specs.Metered.{next_readings, accepted_readings, reading_answer_in}
 use Rattle.table.specs.Readings.{reading_answer, after_reading, after_readings}
+use Rattle.table.specs.RowsApply.{EntryJudged, ReadingJudged}
 use Rattle.table.specs.Turns.{Answers, EntriesAnswered, ReadingsAnswered}
 use Rattle.table.specs.declared.entries.Entry.{Entry}
 use Rattle.table.specs.declared.entries.Entry.TheVariants.{AddCompetitive}
@@ -31,6 +32,7 @@ pub record EntryTaken (entry : Entry) (result : Result ℕ BookRefusal) (hour ne
   pub header : next.header ≡ hour.header
   pub book : next.book.ghost_name ≡ hour.book.ghost_name
   pub follows : (header : Header) (h : List Entry) → IsOpen header h hour → result ≡ answer_in entry h
+  pub judged : (header : Header) (h : List Entry) → IsOpen header h hour → EntryJudged entry h result
   pub stands : (header : Header) (h : List Entry) → IsOpen header h hour → IsOpen header (next_history entry h) next
 
 -- What a competitive unit with the outcome of making its rows answers by the entries accepted before, and the history with
@@ -70,6 +72,7 @@ pub record ReadingTaken (reading : Reading) (result : Result ℕ BookRefusal) (h
   pub header : next.header ≡ hour.header
   pub book : next.book.ghost_name ≡ hour.book.ghost_name
   pub follows : (header : Header) (offers : Offers) (h : List Entry) (rs : List Reading) → IsClosed header offers h rs hour → result ≡ reading_answer_in (view_in h) reading
+  pub judged : (header : Header) (offers : Offers) (h : List Entry) (rs : List Reading) → IsClosed header offers h rs hour → ReadingJudged reading h result
   pub stands : (header : Header) (offers : Offers) (h : List Entry) (rs : List Reading) → IsClosed header offers h rs hour → IsClosed header offers h (next_readings (view_in h) reading rs) next
 
 -- a closed hour takes a list of readings

@@ -7,7 +7,8 @@ use Rattle.allocation.specs.Groups.{sum_of}
 use Rattle.allocation.proofs.Sums.{sum_none, sum_cong}
 use Rattle.settlement.proofs.Running.{share_none, share_whole, share_rises}
 use Rattle.settlement.specs.Shares.{running_share}
-use Rattle.table.proofs.Accepted.{AllNamed}
+use Rattle.table.proofs.Accepted.{Named, AllNamed}
+use Rattle.table.specs.Entries.{sold_by}
 use Rattle.table.specs.declared.records.Commitment.{Commitment}
 use Rattle.settling.proofs.Groups.{sum_prefix}
 use Rattle.settling.specs.Derived.{sum_z, NetsAddUp}
@@ -46,14 +47,25 @@ sum_single (suc n) k v low high =
     omega (arith, here, sum_single n k v low (omega arith)))
     (cases_eq k (n + 1))
 
--- what all buyers bought is all that was sold
+-- where each commitment has one number of n, what counts for the numbers comes to all volumes
+module _ (plants buyers n : ℕ) (number : Commitment → ℕ) (within : (c : Commitment) → Named plants buyers c → (1 ≤ number c) × (number c ≤ n)) (by : ℕ → List Commitment → ℕ) (none : (i : ℕ) → by i [] ≡ 0) (one : (i : ℕ) (c : Commitment) (cs : List Commitment) → by i (c ∷ cs) ≡ cond (eqb (number c) i) c.volume 0 + by i cs) where
+  named_sum : (cs : List Commitment) → AllNamed plants buyers cs → sum_of n (λ i. by (i + 1) cs) ≡ volumes cs
+  named_sum [] named = sum_zeros n (λ i. by (i + 1) []) (λ i lt. none (i + 1))
+  named_sum (c ∷ cs) named =
+      let at = within c named.0 in
+      sum_cong n (λ i. by (i + 1) (c ∷ cs)) (λ i. cond (eqb (number c) (i + 1)) c.volume 0 + by (i + 1) cs) (λ i lt. one (i + 1) c cs)
+      ∙ sum_plus n (λ i. cond (eqb (number c) (i + 1)) c.volume 0) (λ i. by (i + 1) cs)
+      ∙ ap (λ x. x + sum_of n (λ i. by (i + 1) cs)) (sum_single n (number c) c.volume at.0 at.1)
+      ∙ ap (λ y. c.volume + y) (named_sum cs named.1) ∙ sym (sum_by-cons (λ (x : Commitment). x.volume) c cs)
+
+-- what all buyers bought is all that was sold, and so is what all plants sold
 pub bought_sum : (plants n : ℕ) (cs : List Commitment) → AllNamed plants n cs → sum_of n (λ b. bought_by (b + 1) cs) ≡ volumes cs
-bought_sum plants n [] named = sum_zeros n (λ b. bought_by (b + 1) []) (λ b lt. refl)
-bought_sum plants n (c ∷ cs) named =
-    sum_cong n (λ b. bought_by (b + 1) (c ∷ cs)) (λ b. bought_of (b + 1) c + bought_by (b + 1) cs) (λ b lt. sum_by-cons (bought_of (b + 1)) c cs)
-    ∙ sum_plus n (λ b. bought_of (b + 1) c) (λ b. bought_by (b + 1) cs)
-    ∙ ap (λ x. x + sum_of n (λ b. bought_by (b + 1) cs)) (sum_single n c.buyer c.volume named.0.buyer_low named.0.buyer_high)
-    ∙ ap (λ y. c.volume + y) (bought_sum plants n cs named.1) ∙ sym (sum_by-cons (λ (x : Commitment). x.volume) c cs)
+bought_sum plants n =
+    named_sum plants n n (λ (c : Commitment). c.buyer) (λ c named. (named.buyer_low, named.buyer_high)) bought_by (λ b. refl) (λ b c cs. sum_by-cons (bought_of b) c cs)
+
+pub sold_sum : (n buyers : ℕ) (cs : List Commitment) → AllNamed n buyers cs → sum_of n (λ p. sold_by (p + 1) cs) ≡ volumes cs
+sold_sum n buyers =
+    named_sum n buyers n (λ (c : Commitment). c.plant) (λ c named. (named.plant_low, named.plant_high)) sold_by (λ p. refl) (λ p c cs. refl)
 
 module _ (a : Ledger) where
   shares_rise : (b : ℕ) → shares_to a b ≤ shares_to a (b + 1)

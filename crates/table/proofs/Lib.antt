@@ -9,3 +9,6 @@ pub mod Accepted
 pub mod Kept
 pub mod Turns
 pub mod Empty
+pub mod EachCounts
+pub mod JudgedRows
+pub mod LastReadings

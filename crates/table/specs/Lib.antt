@@ -11,3 +11,6 @@ pub mod Metered
 pub mod ClosingLaw
 pub mod Turns
 pub mod Places
+pub mod EntriesCount
+pub mod RowsApply
+pub mod ReadingsCount

@@ -2,7 +2,8 @@
 ghost use Rattle.std.specs.Prelude.{◌≡◌, ◌+◌, ◌-◌, ◌*◌, ◌<◌, ◌≤◌, min, true, false, List, length, Ok, Err, OnOk, IfOk, slice_index};
 ghost use Rattle.table.specs.Effects.{answer_of, after_entry, after_entries, priced_answer, after_priced, unless, passes, in_group};
 ghost use Rattle.table.specs.Groups.{units_of, with_units};
-ghost use Rattle.table.specs.History.{Stands, accepted};
+ghost use Rattle.table.specs.EntriesCount.{EntriesCount};
+ghost use Rattle.table.specs.History.{Proper, Stands, accepted};
 ghost use Rattle.table.specs.Rows.{added, changed, moved};
 ghost use Rattle.table.specs.Turns.{EntriesAnswered};
 ghost use Rattle.table.specs.Entries.{view_of, added_rows, new_unit_rows, commit_rows, unit_rows};
@@ -242,6 +243,7 @@ impl Table {
         ensures after { self.new ≡ after_entries entries.now self.old }
         ensures answered { EntriesAnswered entries.now self.old answers.old answers.new }
         ensures stands { (h : List Entry) → Stands h self.old → Stands (accepted h entries.now) self.new }
+        ensures counts { (h : List Entry) → Proper h → EntriesCount (accepted h entries.now) }
     {
         self.make_all(entries, answers);
     }

@@ -4,6 +4,7 @@ ghost use Rattle.table.specs.Effects.{unless, passes};
 ghost use Rattle.table.specs.Entries.{view_of};
 ghost use Rattle.table.specs.Groups.{units_of, with_units};
 ghost use Rattle.table.specs.Metered.{Metered, accepted_readings};
+ghost use Rattle.table.specs.ReadingsCount.{ReadingsCount};
 ghost use Rattle.table.specs.Rows.{read_unit};
 ghost use Rattle.table.specs.Turns.{ReadingsAnswered};
 ghost use Rattle.table.specs.Readings.{greatest_energy, greatest_control, greatest_adjustment, outside, measured_rows, competitive_reading_rows, reading_answer, after_reading, after_readings};
@@ -140,6 +141,7 @@ impl Table {
         ensures after { self.new ≡ after_readings readings.now self.old }
         ensures answered { ReadingsAnswered readings.now self.old answers.old answers.new }
         ensures metered { (rs : List Reading) → Metered rs self.old → Metered (accepted_readings (view_of self.old) rs readings.now) self.new }
+        ensures counts { (rs : List Reading) → ReadingsCount (accepted_readings (view_of self.old) rs readings.now) }
     {
         self.make_all(readings, answers);
     }
