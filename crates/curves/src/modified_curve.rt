@@ -1,5 +1,6 @@
 // A curve whose first kWh are free, over another curve.
-ghost use Rattle.curves.specs.Kinds.{modified_price, modified_bounded};
+ghost use Rattle.curves.specs.KindLaws.{modified_bounded};
+ghost use Rattle.curves.specs.Kinds.{modified_price};
 
 use crate::limits::{MAX_KWH, read_kwh};
 use crate::traits::Curve;

@@ -1,5 +1,6 @@
 // A curve dearer than another curve, up to a ceiling.
-ghost use Rattle.curves.specs.Kinds.{raised_price, raised_bounded};
+ghost use Rattle.curves.specs.KindLaws.{raised_bounded};
+ghost use Rattle.curves.specs.Kinds.{raised_price};
 
 use crate::limits::MAX_PRICE;
 use crate::traits::Curve;

@@ -1,6 +1,7 @@
 // The stepped offer and the stepped cost.
 ghost use Rattle.std.specs.Prelude.{◌≡◌, IfOk};
-ghost use Rattle.curves.specs.Kinds.{stepped_price, stepped_bounded, stepped_offer_rises};
+ghost use Rattle.curves.specs.KindLaws.{stepped_bounded, stepped_offer_rises};
+ghost use Rattle.curves.specs.Kinds.{stepped_price};
 ghost use Rattle.curves.specs.Steps.{steps_of};
 ghost use Rattle.curves.specs.Refusals.{stepped_made};
 

@@ -1,6 +1,7 @@
 // The tariff: an offer with one rate.
 ghost use Rattle.std.specs.Prelude.{◌≡◌, ℕ, IfOk};
-ghost use Rattle.curves.specs.Kinds.{tariff_price, tariff_bounded, tariff_rises};
+ghost use Rattle.curves.specs.KindLaws.{tariff_bounded, tariff_rises};
+ghost use Rattle.curves.specs.Kinds.{tariff_price};
 ghost use Rattle.curves.specs.Refusals.{tariff_made};
 
 use crate::limits::{MAX_KWH, MAX_PRICE, read_energy};

@@ -1,6 +1,7 @@
 -- The most kWh of a unit's parts, and what the parts cost at most.
 use Rattle.std.proofs.Common.{ℕ, ◌*◌, ◌≤◌, min, max, Bool, true, false, cond, mul-le-mul, ◌==◌, nat_le, arith}
-use Rattle.curves.specs.Kinds.{modified_bounded, raised_price, raised_bounded}
+use Rattle.curves.specs.KindLaws.{modified_bounded, raised_bounded}
+use Rattle.curves.specs.Kinds.{raised_price}
 use Rattle.curves.specs.Limits.{read_energy, read_kwh}
 use Rattle.settlement.specs.declared.payments.PaidUnit.{PaidUnit}
 use Rattle.settlement.specs.Reference.{kept, net_of}

@@ -1,6 +1,7 @@
 -- The price of each kWh of a stepped offer that is asked one kWh at a time.
 use Rattle.std.specs.Prelude.{ℕ, ◌≤◌}
-use Rattle.curves.specs.Kinds.{stepped_offer_price, stepped_offer_bounded, stepped_offer_rises}
+use Rattle.curves.specs.KindLaws.{stepped_offer_bounded, stepped_offer_rises}
+use Rattle.curves.specs.Kinds.{stepped_offer_price}
 use Rattle.curves.specs.Prices.{NeverFalls}
 use Rattle.split_cases.specs.declared.single.Single.{Single}
 

@@ -1,6 +1,7 @@
 use Rattle.std.proofs.Common.{◌≡◌, ℕ, ◌≤◌, max, sym, ap, ◌∙◌, arith}
 use Rattle.std.proofs.lemmas.Bool.{cond-true, cond-false, eq-eqb, ne_eqb}
-use Rattle.curves.specs.Kinds.{modified_bounded, raised_price, raised_bounded}
+use Rattle.curves.specs.KindLaws.{modified_bounded, raised_bounded}
+use Rattle.curves.specs.Kinds.{raised_price}
 use Rattle.curves.specs.Limits.{read_energy, read_kwh}
 use Rattle.curves.specs.Prices.{cost_of}
 use Rattle.curves.proofs.Costs.{cost_le}

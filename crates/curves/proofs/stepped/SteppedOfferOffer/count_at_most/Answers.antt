@@ -1,5 +1,5 @@
 use Rattle.std.proofs.Common.{arith}
-use Rattle.curves.specs.Kinds.{stepped_offer_rises}
+use Rattle.curves.specs.KindLaws.{stepped_offer_rises}
 use Rattle.curves.proofs.Costs.{at_most}
 use Rattle.curves.proofs.stepped.SteppedOfferOffer.count_at_most.Goals as goal
 
