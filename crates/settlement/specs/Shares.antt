@@ -1,9 +1,9 @@
 -- Shares of a whole.
 use Rattle.std.specs.Prelude.{ℕ, ◌+◌, ◌-◌, ◌*◌, ◌/◌, min, cond, ◌==◌}
 
--- what falls to `part` of `total`, its fraction dropped
+-- what falls to `part` of `total`, its fraction dropped; nothing where the total is 0
 unfoldable pub running_share : ℕ → ℕ → ℕ → ℕ
-running_share whole part total = whole * part / total
+running_share whole part total = cond (total == 0) 0 (whole * part / total)
 
 -- Group 1's share of a plant's commitments: by the declared gross of the two groups. Group 2 gets the rest.
 abbrev pub group_one_share : ℕ → ℕ → ℕ → ℕ
