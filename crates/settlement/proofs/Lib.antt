@@ -1,4 +1,5 @@
 pub mod Bounds
+pub mod Fractions
 pub mod Quotients
 pub mod Rates
 pub mod Running

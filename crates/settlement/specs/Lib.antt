@@ -1,4 +1,5 @@
 pub mod Reference
+pub mod Fractions
 pub mod Shares
 pub mod Payments
 pub mod Support

@@ -1,6 +1,7 @@
 // What a unit is paid.
 ghost use Rattle.std.specs.Prelude.{◌≡◌, ◌≤◌};
 ghost use Rattle.curves.specs.Limits.{read_energy, read_kwh};
+ghost use Rattle.settlement.specs.Fractions.{PaidParts};
 ghost use Rattle.settlement.specs.Payments.{cost_between, lesser, billed, offered, committed, first_part, second_part, competitive_payment, guaranteed_payment};
 
 use crate::readings::CompetitiveEnergies;
@@ -98,6 +99,7 @@ pub fn competitive_payment<O: Curve, C: Curve>(
     ceiling: u32,
 ) -> u64
     ensures value { result ≡ competitive_payment unit.now (O.Curve.prices offer.now) (C.Curve.prices cost.now) ceiling }
+    ensures parts { PaidParts unit.now (O.Curve.prices offer.now) (C.Curve.prices cost.now) ceiling result }
     ensures bound { result ≤ 60000000000000 }
 {
     let modified = Modified {

@@ -1,5 +1,6 @@
 // Energy at the reference point.
-ghost use Rattle.std.specs.Prelude.{◌≡◌, ◌≤◌};
+ghost use Rattle.std.specs.Prelude.{◌≡◌, ◌≤◌, min};
+ghost use Rattle.settlement.specs.Fractions.{Carried, CarriedGross};
 ghost use Rattle.settlement.specs.Reference.{kept, at_reference, net_of, bill_of};
 
 use curves::MAX_KWH;
@@ -28,6 +29,7 @@ pub(crate) fn at_reference(energy: u64, loss: u32) -> u64
 /// A unit's limit: its gross energy less internal consumption, at the reference point.
 pub fn limit(gross: u32, internal: u32, loss: u32) -> u32
     ensures value { result ≡ net_of internal loss gross }
+    ensures fraction { CarriedGross internal loss gross result }
     ensures bound { result ≤ gross }
 {
     (gross as u64 * parts_kept(internal) * parts_kept(loss) / (WHOLE_PARTS * WHOLE_PARTS)) as u32
@@ -36,6 +38,7 @@ pub fn limit(gross: u32, internal: u32, loss: u32) -> u32
 /// A unit's billed energy: its net energy at the reference point.
 pub fn bill(net: u32, loss: u32) -> u32
     ensures value { result ≡ bill_of loss net }
+    ensures fraction { Carried loss (min net 2000000) result }
     ensures bound { result ≤ 2000000 }
 {
     at_reference(net.min(MAX_KWH) as u64, loss) as u32

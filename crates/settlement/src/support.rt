@@ -1,6 +1,7 @@
 // A plant's support and what it costs.
 ghost use Rattle.std.specs.Prelude.{◌≡◌, ◌≤◌};
-ghost use Rattle.settlement.specs.Support.{marked, active_of, day_support, quotient, read_money, rate_of, support_cost};
+ghost use Rattle.settlement.specs.Fractions.{FallsShort};
+ghost use Rattle.settlement.specs.Support.{marked, active_of, day_support, quotient, rate_of, support_cost};
 
 use crate::readings::Control;
 use crate::reference::{at_reference, parts_kept};
@@ -38,6 +39,7 @@ impl Control {
 /// Allocated energy that the plant's active energy, at the reference point, falls short of.
 pub fn day_support(allocated: u32, active: u64, loss: u32) -> u32
     ensures value { result ≡ day_support loss allocated active }
+    ensures fraction { FallsShort loss allocated active result }
     ensures bound { result ≤ allocated }
 {
     (allocated as u64).saturating_sub(at_reference(active, loss)) as u32

@@ -1,4 +1,4 @@
-use Rattle.std.proofs.Common.{◌≡◌, ℕ, ◌≤◌, max, sym, ap, ◌∙◌, arith}
+use Rattle.std.proofs.Common.{◌≡◌, ℕ, ◌+◌, ◌≤◌, max, sym, ap, ◌∙◌, subst, arith}
 use Rattle.std.proofs.lemmas.Bool.{cond-true, cond-false, eq-eqb, ne_eqb}
 use Rattle.curves.specs.KindLaws.{modified_bounded, raised_bounded}
 use Rattle.curves.specs.Kinds.{raised_price}
@@ -6,8 +6,10 @@ use Rattle.curves.specs.Limits.{read_energy, read_kwh}
 use Rattle.curves.specs.Prices.{cost_of}
 use Rattle.curves.proofs.Costs.{cost_le}
 use Rattle.settlement.specs.declared.payments.PaidUnit.{PaidUnit}
-use Rattle.settlement.specs.Payments.{cost_between, lesser, billed, committed, first_part, second_part, modified, sum_a, sum_b, sum_c}
+use Rattle.settlement.specs.Fractions.{PaidParts}
+use Rattle.settlement.specs.Payments.{cost_between, lesser, billed, committed, first_part, second_part, modified, sum_a, sum_b, sum_c, competitive_payment}
 use Rattle.settlement.proofs.Bounds.{billed_le, first_le, second_le, lesser_le, payment_le}
+use Rattle.settlement.proofs.Fractions.{paid_parts}
 use Rattle.settlement.proofs.Sums.{from_start, between_bound, lesser_from}
 use Rattle.settlement.proofs.payments.competitive_payment.Goals as goal
 use Rattle.settlement.proofs.payments.competitive_payment.Goals.{then-paid_a-eq0, else-paid_a-eq0}
@@ -71,7 +73,9 @@ returns g c =
           ∙ rest (λ _. modified u offer (read_kwh (committed u)))
           ∙ sym (cond-false _ _ _ (ne_eqb (sum_a u offer) 0 (λ none. w.if-paid_a-eq0.false (is-a ∙ none))))
     ] in
+    let value : c.cost-paid_a.result + c.lesser_cost-paid_b.result + c.if-paid_a-eq0.paid_c ≡ competitive_payment u offer cost ceiling = omega (arith, is-a, is_b, is_c) in
     record {
-      value = omega (arith, is-a, is_b, is_c);
+      value = value;
+      parts = subst (PaidParts u offer cost ceiling) (sym value) (paid_parts u offer cost ceiling);
       bound = omega (arith, is-a, is_b, is_c, payment_le u offer cost ceiling (g.met.O.Curve.bounded c.args.offer.now) (g.met.C.Curve.bounded c.args.cost.now));
     }
