@@ -1,5 +1,5 @@
 -- The worked example, computed on the definitions.
-use Rattle.std.proofs.Common.{◌≡◌, ℕ, zero, suc, ◌-◌, ◌<◌, ◌≤◌, cond, leb, ◌⊎◌, List, [], ◌∷◌, length, Ok, Result, sym, refl, ap, ◌∙◌, subst, inl, inr, ⊎_elim, arith}
+use Rattle.std.proofs.Common.{◌≡◌, ℕ, zero, suc, ◌-◌, ◌<◌, ◌≤◌, cond, leb, ◌⊎◌, List, [], ◌∷◌, length, replicate, Ok, Result, sym, refl, ap, ◌∙◌, subst, inl, inr, ⊎_elim, arith}
 use Rattle.std.proofs.lemmas.List.{ext_get_or}
 use Rattle.std.proofs.lemmas.Bool.{cases_lt, le-leb, lt-leb, cond-true, cond-false, cond_both}
 use Rattle.curves.specs.Prices.{cost_of}
@@ -12,7 +12,11 @@ use Rattle.curves.specs.declared.steps.Step.{Step}
 use Rattle.allocation.specs.Groups.{sum_of, Within, group_of, amount_at}
 use Rattle.allocation.specs.Merit.{Before, MeritOrder}
 use Rattle.allocation.specs.Laws.{Split}
-use Rattle.allocation.specs.TwoUnits.{two_units, amounts, WorkedExample, step, two_steps}
+use Rattle.allocation.specs.TwoUnits.{two_units, amounts, WorkedExample, step}
+
+-- a stepped offer of two steps
+abbrev pub two_steps : Step → Step → SteppedOffer
+two_steps first second = record { table = record { count = 2; steps = first ∷ (second ∷ replicate 8 (step 0 0)) } }
 
 -- two steps: the first price up to the first width, then the second
 first : (w p v q k : ℕ) → k ≤ w → cond (leb k w) p (cond (leb (k - w) v) q q) ≡ p

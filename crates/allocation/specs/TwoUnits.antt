@@ -1,8 +1,7 @@
 -- A worked example. Unit 1 offers 50 kWh at 300 and then 500, unit 2 offers 80 at 400 and then 500; both limits are 100.
-use Rattle.std.specs.Prelude.{◌≡◌, ℕ, [], ◌∷◌, replicate}
+use Rattle.std.specs.Prelude.{◌≡◌, ℕ, [], ◌∷◌}
 use Rattle.curves.specs.Steps.{step_price}
 use Rattle.curves.specs.declared.steps.Step.{Step}
-use Rattle.curves.specs.Kinds.{SteppedOffer}
 use Rattle.allocation.specs.Groups.{Group, units_of, amount_at, cost}
 use Rattle.allocation.specs.Merit.{MeritOrder}
 use Rattle.allocation.specs.Laws.{uncovered}
@@ -26,7 +25,3 @@ pub record WorkedExample : Type 0 where
   pub left_200 : uncovered two_units 200 (amounts 100 100) ≡ 0
   pub of_201 : MeritOrder two_units 201 (amounts 100 100)
   pub left_201 : uncovered two_units 201 (amounts 100 100) ≡ 1
-
--- a stepped offer of two steps
-abbrev pub two_steps : Step → Step → SteppedOffer
-two_steps first second = record { table = record { count = 2; steps = first ∷ (second ∷ replicate 8 (step 0 0)) } }

@@ -1,9 +1,9 @@
 -- Lemmas on walking along a list of steps.
 use Rattle.std.proofs.Common.{◌≡◌, ℕ, ◌+◌, ◌-◌, ◌<◌, ◌≤◌, Bool, List, length, get_or, drop, sym, ap, ◌∙◌, arith}
 use Rattle.std.proofs.lemmas.Bool.{le-leb, lt-leb, cond-true, cond-false}
-use Rattle.std.proofs.lemmas.List.{drop_more, drop_all}
+use Rattle.std.proofs.lemmas.List.{drop_more}
 use Rattle.curves.specs.Limits.{read_kwh}
-use Rattle.curves.specs.Steps.{price_after, price_read, read_from, LevelAt}
+use Rattle.curves.specs.Steps.{price_after, price_read, read_from}
 use Rattle.curves.specs.declared.steps.Step.{Step}
 
 -- the price of kWh k by the steps that are left, read after a step of the price `last`
@@ -26,20 +26,3 @@ rest_past r last start k xs i d p w lt priced wide h =
     ap (λ ss. rest r last ss (k - start)) (drop_more xs i d lt) ∙ cond-false _ _ _ (lt-leb (k - start) (read_kwh s.width) past)
     ∙ ap (λ q. rest r q (drop (i + 1) xs) (k - start - read_kwh s.width)) (sym priced)
     ∙ ap (λ m. rest r p (drop (i + 1) xs) m) left
-
--- no step is left
-pub rest_none : (r : Bool) (last k : ℕ) (xs : List Step) (i : ℕ) → length xs ≤ i → rest r last (drop i xs) k ≡ last
-rest_none r last k xs i le = ap (λ ss. rest r last ss k) (drop_all i xs le)
-
--- one price from kWh k to kWh end
-pub level_at : (price : ℕ → ℕ) (k at p end : ℕ) → at ≡ k → at ≤ end → end ≤ 2000000 → ((m : ℕ) → at ≤ m → m ≤ end → price m ≡ p) → LevelAt price k (record { price = p; end = end })
-level_at price k at p end same le top level =
-    let here = level k (omega arith) (omega arith) in
-    record {
-      priced = sym here;
-      stretch = record {
-        from = omega arith;
-        within = top;
-        level = λ m from to. level m (omega arith) to ∙ sym here;
-      };
-    }

@@ -12,9 +12,6 @@ use Rattle.reader.specs.Outcome.{Outcome, go_on, found_there, read_on, read_from
 use Rattle.reader.specs.Progress.{Progress, call}
 use Rattle.reader.specs.Progress.Progress.{Unopened}
 
-none : Plain
-none = record { kind = 0; values = [] }
-
 -- the rest after a record that is spelled there
 after_is : (r : Plain) (rest ws : List ℕ) (place : ℕ) → Writable r → ws ≡ record_words r ++ rest → after_next (record { words = ws; place = place }) ≡ record { words = rest; place = place + 4 * (1 + length r.values) }
 after_is r rest ws place w is =

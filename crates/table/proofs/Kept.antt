@@ -7,10 +7,10 @@ use Rattle.std.proofs.lemmas.Bool.{cases_eq, cases_lt, cond_both}
 use Rattle.allocation.specs.Groups.{Group, total}
 use Rattle.allocation.specs.Laws.{Split}
 use Rattle.table.specs.Closing.{terms_of, SameUnits, Closed}
-use Rattle.table.specs.ClosingLaw.{group_in, share_one_in, share_two_in, amount_in, PlantLaw, ClosingLaw}
+use Rattle.table.specs.ClosingLaw.{group_in, share_one_in, share_two_in, amount_in, PlantLawOf, ClosingLaw}
 use Rattle.table.specs.Effects.{unless, in_group, applied, after_entry, with_competitive, with_guaranteed}
 use Rattle.table.specs.Entries.{rows, view_of}
-use Rattle.table.specs.History.{units_in, unit_in, BuyersStand, CommitmentsStand, SoldStands, UnitsStand, Stands}
+use Rattle.table.specs.History.{units_in, unit_in, sold_in, BuyersStand, CommitmentsStand, SoldStands, UnitsStand, Stands}
 use Rattle.table.specs.Metered.{Metered}
 use Rattle.table.specs.Readings.{reading_rows, applied_reading, after_reading}
 use Rattle.table.specs.Rows.{UnitTable, new_unit, new_buyer, read_use, changed, corrected, moved, with_reading, read_unit, kept_reading}
@@ -154,14 +154,14 @@ amounts_kept g plant h reading unit t =
     fun_ext (λ i. ap (λ a. cond (ltb i (units_in g h) && eqb (unit_in g (i + 1) h).plant plant) a 0)
     (sym (change-keeps (λ (u : UnitRecord). u.figures.allocated) (with_reading reading) (λ u. refl) unit t i)))
 
-module _ {O P : Type 0} (prices1 : O → ℕ → ℕ) (offers1 : List O) (prices2 : P → ℕ → ℕ) (offers2 : List P) (plant : ℕ) (h : List Entry) (t : Table) (l : PlantLaw prices1 offers1 prices2 offers2 plant h t) where
+module _ {O P : Type 0} (prices1 : O → ℕ → ℕ) (offers1 : List O) (prices2 : P → ℕ → ℕ) (offers2 : List P) (plant : ℕ) (h : List Entry) (t : Table) (l : PlantLawOf (sold_in plant h) prices1 offers1 prices2 offers2 plant h t) where
   abbrev group1 : Group
   group1 = group_in 1 prices1 offers1 plant h
 
   abbrev group2 : Group
   group2 = group_in 2 prices2 offers2 plant h
 
-  applied_reading_law : (r : Reading) → PlantLaw prices1 offers1 prices2 offers2 plant h (applied_reading r t)
+  applied_reading_law : (r : Reading) → PlantLawOf (sold_in plant h) prices1 offers1 prices2 offers2 plant h (applied_reading r t)
   applied_reading_law (Competitive unit reading) =
       let same = amounts_kept 1 plant h reading unit t.competitive in
       record {
@@ -201,7 +201,7 @@ module _ {O P : Type 0} (prices1 : O → ℕ → ℕ) (offers1 : List O) (prices
 pub reading_law : {O P : Type 0} (prices1 : O → ℕ → ℕ) (offers1 : List O) (prices2 : P → ℕ → ℕ) (offers2 : List P) (h : List Entry) (t : Table) (r : Reading) → ClosingLaw prices1 offers1 prices2 offers2 h t → ClosingLaw prices1 offers1 prices2 offers2 h (after_reading r t)
 reading_law prices1 offers1 prices2 offers2 h t r law place lt =
     let l = law place lt in
-    after_either (PlantLaw prices1 offers1 prices2 offers2 (place + 1) h) r t l (applied_reading_law prices1 offers1 prices2 offers2 (place + 1) h t l r)
+    after_either (PlantLawOf (sold_in (place + 1) h) prices1 offers1 prices2 offers2 (place + 1) h) r t l (applied_reading_law prices1 offers1 prices2 offers2 (place + 1) h t l r)
 
 -- entries leave every reading missing
 new_unread : (buyers : List Buyer) (k loss i : ℕ) → (get_or buyers i (new_buyer 0)).used ≡ None → (get_or (set buyers k (new_buyer loss)) i (new_buyer 0)).used ≡ None

@@ -66,10 +66,6 @@ ClosingLawOf sold prices1 offers1 prices2 offers2 h t =
     (place : ℕ) → place < plants_in h → PlantLawOf (sold (place + 1)) prices1 offers1 prices2 offers2 (place + 1) h t
 
 -- what a plant has sold are its accepted commitments
-abbrev pub PlantLaw : {O P : Type 0} → (O → ℕ → ℕ) → List O → (P → ℕ → ℕ) → List P → ℕ → List Entry → Table → Type 0
-PlantLaw prices1 offers1 prices2 offers2 plant h t =
-    PlantLawOf (sold_in plant h) prices1 offers1 prices2 offers2 plant h t
-
 abbrev pub ClosingLaw : {O P : Type 0} → (O → ℕ → ℕ) → List O → (P → ℕ → ℕ) → List P → List Entry → Table → Type 0
 ClosingLaw prices1 offers1 prices2 offers2 h t =
     ClosingLawOf (λ plant. sold_in plant h) prices1 offers1 prices2 offers2 h t

@@ -1,6 +1,6 @@
 use Rattle.std.proofs.Common.{◌≡◌, refl, arith}
-use Rattle.allocation.specs.TwoUnits.{step, two_steps}
-use Rattle.allocation.proofs.TwoUnits.{worked_example, pinned, offer_made}
+use Rattle.allocation.specs.TwoUnits.{step}
+use Rattle.allocation.proofs.TwoUnits.{two_steps, worked_example, pinned, offer_made}
 use Rattle.allocation.proofs.example.worked_example.Goals as goal
 
 pub returns : goal.returns
