@@ -1,13 +1,15 @@
 -- Settling the units and then the rest settles the table.
 use Rattle.table.specs.Places.{unit_at, plant_at, buyer_at}
-use Rattle.std.proofs.Common.{◌≡◌, ℕ, ◌+◌, ◌*◌, min, ℤ, pos, ◌-ℤ◌, Some, None, Option, sym, refl, ap, ◌∙◌, subst}
+use Rattle.std.proofs.Common.{◌≡◌, ℕ, ◌+◌, ◌*◌, ◌<◌, min, ℤ, pos, ◌-ℤ◌, Some, None, Option, sym, refl, ap, ◌∙◌, subst}
 use Rattle.allocation.specs.Groups.{sum_of}
+use Rattle.settlement.specs.Reference.{at_reference}
+use Rattle.settlement.proofs.Fractions.{carried}
 use Rattle.table.specs.Rows.{UnitTable}
 use Rattle.table.specs.declared.records.Plant.{Plant}
 use Rattle.table.specs.declared.records.Table.{Table}
-use Rattle.settling.specs.Figures.{Pay, sum_units, of_plant, billed_unit, active_unit, opportunity_unit, penalty_unit, hour_money, hour_over, volumes, bought_by}
+use Rattle.settling.specs.Figures.{Pay, sum_units, of_plant, billed_unit, active_unit, opportunity_unit, penalty_unit, day_in, plant_figures, hour_money, hour_over, volumes, bought_by}
 use Rattle.settling.specs.Ledger.{UnitCase, Ledger, ledger_of}
-use Rattle.settling.specs.Settled.{GroupSettled, Settled, with_rows, settled_plant, settled_buyer}
+use Rattle.settling.specs.Settled.{GroupSettled, Settled, SupportIs, active_of_group, with_rows, settled_plant, settled_buyer}
 use Rattle.settling.specs.Stages.{both_totals, money_of, figures_by, buyer_figures_by, weights_of, hour_by, sold_of, RestSettled}
 use Rattle.settling.specs.Totals.{counted_totals, no_totals}
 use Rattle.settling.specs.declared.header.Header.{Header}
@@ -19,6 +21,17 @@ figures_same : (header : Header) (money over : ℤ) (p : Plant) (x : Totals) (bi
 figures_same header money over p x billed paid active eb ep ea =
     let by = λ (b d a : ℕ). figures_by header money over p (record { billed = b; paid = d; active = a; opportunity = 0; penalties = 0 }) in
     ap (λ b. by b x.paid x.active) eb ∙ ap (λ d. by billed d x.active) ep ∙ ap (by billed paid) ea
+
+-- a plant's support, by its figures
+support_is : (header : Header) (pay : Pay) (t after : Table) (i : ℕ) → plant_at after i ≡ settled_plant (plant_figures header pay (ledger_of t) i) (plant_at t i) → SupportIs t i (plant_at after i).figures.support
+support_is header pay t after i settled =
+    let p = plant_at t i in
+    let active = active_of_group (i + 1) t.competitive + active_of_group (i + 1) t.guaranteed in
+    record {
+      day = day_in (ledger_of t) i;
+      both = ap (λ (q : Plant). q.figures.support) settled;
+      falls_short = record { made = at_reference p.loss active; carried = carried p.loss active; missing = refl };
+    }
 
 module _ (header : Header) (pay : Pay) (t : Table) (one two : UnitTable) (settled1 : GroupSettled (pay 1) t.plants.rows t.competitive one) (settled2 : GroupSettled (pay 2) t.plants.rows t.guaranteed two) where
   abbrev book : Ledger
@@ -68,13 +81,15 @@ module _ (header : Header) (pay : Pay) (t : Table) (one two : UnitTable) (settle
   settled_whole after r =
       let by = λ (m o : ℤ) (i : ℕ). settled_plant (figures_by header m o (plant_at t i) (both_totals (Some (i + 1)) one two)) (plant_at t i) in
       let buyer = λ (b : ℕ) (i : ℕ). settled_buyer (buyer_figures_by b (weights_of i t.buyers.rows) (weights_of (i + 1) t.buyers.rows) (weights_of (min t.buyers.count 64) t.buyers.rows) (bought_by (i + 1) (sold_of t))) (buyer_at t i) in
+      let plants : (i : ℕ) → i < min t.plants.count 32 → plant_at after i ≡ settled_plant (plant_figures header pay book i) (plant_at t i) = λ i lt. r.plants i lt
+      ∙ ap (λ m. by m (pos (both_totals None one two).billed -ℤ pos (volumes (sold_of t))) i) money_same
+      ∙ ap (λ o. by (hour_money pay book) o i) over_same
+      ∙ ap (λ f. settled_plant f (plant_at t i)) (figures_same header (hour_money pay book) (hour_over book) (plant_at t i) (both_totals (Some (i + 1)) one two) _ _ _ (billed_of (i + 1)) (paid_of_lem (i + 1)) (active_of_lem (i + 1))) in
       record {
         competitive = subst (GroupSettled (pay 1) t.plants.rows t.competitive) (sym (ap (λ (x : Table). x.competitive) r.rest)) settled1;
         guaranteed = subst (GroupSettled (pay 2) t.plants.rows t.guaranteed) (sym (ap (λ (x : Table). x.guaranteed) r.rest)) settled2;
-        plants = λ i lt. r.plants i lt
-            ∙ ap (λ m. by m (pos (both_totals None one two).billed -ℤ pos (volumes (sold_of t))) i) money_same
-            ∙ ap (λ o. by (hour_money pay book) o i) over_same
-            ∙ ap (λ f. settled_plant f (plant_at t i)) (figures_same header (hour_money pay book) (hour_over book) (plant_at t i) (both_totals (Some (i + 1)) one two) _ _ _ (billed_of (i + 1)) (paid_of_lem (i + 1)) (active_of_lem (i + 1)));
+        plants = plants;
+        support = λ i lt. support_is header pay t after i (plants i lt);
         plants_later = r.plants_later;
         plants_long = r.plants_long;
         buyers = λ i lt. r.buyers i lt ∙ ap (λ b. buyer b i) all_billed;
