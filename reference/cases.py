@@ -15,6 +15,7 @@ sys.dont_write_bytecode = True
 sys.path.insert(0, os.path.dirname(os.path.abspath(__file__)))
 
 import hour
+import told_apart
 from hour import (COMPETITIVE, GUARANTEED, MOST_KWH, MOST_PRICE, AddBuyer, AddCompetitive, AddGuaranteed, AddPlant, Commit,
                   Correct, Header, PriceRow, PutAside, ReadBuyer, ReadCompetitive, ReadGuaranteed, Refused, SteppedCost,
                   SteppedOffer, TakeBack, Tariff)
@@ -242,6 +243,17 @@ def hours_let_go():
                    + hour_text("hour after it", small_hour([])))
 
 
+def told_apart_cases():
+    """One group full and the other not, an hour with four different counts, and one with several orders of changes."""
+    units = (told_apart.COMPETITIVE_UNIT, told_apart.GUARANTEED_UNIT)
+    competitive, _ = hour.judge_entries(told_apart.full_group(*units))
+    guaranteed, _ = hour.judge_entries(told_apart.full_group(*reversed(units)))
+    return "".join((
+        "case competitive units full\n" + answer_lines(competitive), "case guaranteed units full\n" + answer_lines(guaranteed),
+        hour_text("case four counts", told_apart.four_counts(), range(9)),
+        hour_text("case orders", told_apart.orders(), (0, 3, 4, 5, 6, 7))))
+
+
 def fixed_cases():
     no_units = fixed_hour([AddPlant(0), AddBuyer(0), Commit(1, 1, 50)], [ReadBuyer(1, 7)], 0)
     return "".join((
@@ -253,7 +265,7 @@ def fixed_cases():
         hour_text("case plant without units", no_units),
         hour_text("case small hour", small_hour(last_readings())),
         hour_text("case nothing read", small_hour([])),
-        hours_let_go()))
+        hours_let_go(), told_apart_cases()))
 
 
 # Pseudo-random hours ------------------------------------------------------------------------------------------------

@@ -9,13 +9,16 @@ further files of all kinds, damaged ones and ones too large to be stored among t
 import os
 import sys
 from collections import Counter
+from dataclasses import astuple
 
 sys.dont_write_bytecode = True
 sys.path.insert(0, os.path.dirname(os.path.abspath(__file__)))
 
+import hour
+import told_apart
 from cases import COMPETITIVE_FIELDS, GUARANTEED_FIELDS, MOST, Random
-from hour_file import (BUYER, BUYER_READING, CLOSE, COMMIT, COMPETITIVE, COMPETITIVE_READING, CORRECT, COUNTS,
-                       GUARANTEED, GUARANTEED_READING, HEADER, MOST_BYTES, MOST_VALUE, PLANT, PUT_ASIDE, SETTLE,
+from hour_file import (BUYER, BUYER_READING, CLOSE, COMMIT, COMPETITIVE, COMPETITIVE_READING, CORRECT, COUNTS, ENTRIES,
+                       GUARANTEED, GUARANTEED_READING, HEADER, MOST_BYTES, MOST_VALUE, PLANT, PUT_ASIDE, READINGS, SETTLE,
                        TAKE_BACK, VALUE, WORD, Record, bytes_of, head, kind_of, list_file, number_of, spell, write_file)
 
 # The stored cases hold so many random hours, as drawn and damaged. A random one has at most so many bytes.
@@ -344,6 +347,28 @@ def two_rows():
     for changes in ({2: MOST_KWH + 1, 8: 401}, {0: 2, 8: 401}):
         yield with_values(BASE, GUARANTEED_READING, changes)
     yield with_values(BASE, BUYER_READING, {0: 2, 1: 50_000_001})
+
+
+# Hours given as calls -----------------------------------------------------------------------------------------------
+
+KIND_OF = {call: kind for kind, call in (ENTRIES | READINGS).items()}
+
+
+def record_of_call(call, rows):
+    """A competitive unit takes the next of the price rows."""
+    if isinstance(call, hour.AddCompetitive):
+        row = next(rows)
+        return unit(call.plant, call.gross, call.rho, list(row.offer.steps), list(row.cost.steps))
+    return record(KIND_OF[type(call)], *astuple(call))
+
+
+def records_of_hour(case):
+    """The records of the accepted calls of an hour whose guaranteed units have the header's tariff."""
+    _, entries = hour.judge_entries(case["entries"])
+    _, readings = hour.judge_readings(case["readings"], entries)
+    rows = iter(case["rows1"])
+    return [record(HEADER, *astuple(case["header"])), *(record_of_call(call, rows) for call in entries), record(CLOSE),
+            *(record_of_call(call, rows) for call in readings), record(SETTLE)]
 
 
 # Fixed faults of form -----------------------------------------------------------------------------------------------
@@ -726,6 +751,7 @@ def stored_files():
     files += changed_bytes(random)
     files += [full_commitments(random) for _ in range(2)]
     files += [write_file(large_energies(random)), write_file(largest_hour(random)), write_file(TWO_PLANTS)]
+    files += [write_file(records_of_hour(case)) for case in (told_apart.four_counts(), told_apart.orders())]
     return list(dict.fromkeys(files))
 
 

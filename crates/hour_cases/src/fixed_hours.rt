@@ -10,8 +10,8 @@ use std::alloc::Global;
 
 const TARIFF: Tariff = Tariff { rate: 400 };
 
-// An hour without calls, with so many equal rows for each group.
-fn plan_with_rows(heap: Global, count: usize) -> anyhow::Result<Plan<Tariff, Tariff>> {
+/// An hour without calls, with so many equal rows for each group.
+pub(crate) fn plan_with_rows(heap: Global, count: usize) -> anyhow::Result<Plan<Tariff, Tariff>> {
     let offer = SteppedOffer::new(&[step(100, 300), step(100, 500)])?;
     let cost = SteppedCost::new(&[step(100, 350)])?;
     Ok(Plan {
@@ -117,6 +117,7 @@ impl Cases {
         self.report.line("case nothing read")?;
         self.nothing_read()?;
         self.open_hour_let_go()?;
-        self.closed_hour_let_go()
+        self.closed_hour_let_go()?;
+        self.told_apart()
     }
 }

@@ -16,6 +16,7 @@ mod report;
 mod row_draws;
 mod runs;
 mod source;
+mod told_apart;
 
 use runs::Cases;
 use std::alloc::Global;

@@ -4,3 +4,7 @@ pub mod Refused
 pub mod Values
 pub mod File
 pub mod Calls
+pub mod Orders
+pub mod Numbers
+pub mod Readings
+pub mod Fractions

@@ -2,7 +2,11 @@
 ghost use Rattle.worked_hour.specs.Calls.{CallExamples};
 ghost use Rattle.worked_hour.specs.Examples.{WorkedExamples};
 ghost use Rattle.worked_hour.specs.File.{FileExamples};
+ghost use Rattle.worked_hour.specs.Fractions.{FractionExamples};
 ghost use Rattle.worked_hour.specs.Hour.{FullerHour};
+ghost use Rattle.worked_hour.specs.Numbers.{NumberExamples};
+ghost use Rattle.worked_hour.specs.Orders.{OrderExamples};
+ghost use Rattle.worked_hour.specs.Readings.{ReadingExamples};
 ghost use Rattle.worked_hour.specs.Refused.{RefusalTable};
 ghost use Rattle.worked_hour.specs.Values.{SmallExamples};
 
@@ -14,4 +18,8 @@ pub(crate) fn worked_examples()
     ensures refusals { RefusalTable }
     ensures small { SmallExamples }
     ensures file { FileExamples }
+    ensures orders { OrderExamples }
+    ensures numbers { NumberExamples }
+    ensures readings { ReadingExamples }
+    ensures fractions { FractionExamples }
 {}

@@ -1,4 +1,8 @@
 use Rattle.worked_hour.proofs.Computed.{worked_examples, fuller_hour, call_examples, refusal_table, small_examples, file_examples}
+use Rattle.worked_hour.proofs.Fractions.{fraction_examples}
+use Rattle.worked_hour.proofs.Numbers.{number_examples}
+use Rattle.worked_hour.proofs.Orders.{order_examples}
+use Rattle.worked_hour.proofs.Readings.{reading_examples}
 use Rattle.worked_hour.proofs.examples.worked_examples.Goals as goal
 
 pub returns-clause-examples : goal.returns-clause-examples
@@ -18,3 +22,15 @@ returns-clause-small c = small_examples
 
 pub returns-clause-file : goal.returns-clause-file
 returns-clause-file c = file_examples
+
+pub returns-clause-orders : goal.returns-clause-orders
+returns-clause-orders c = order_examples
+
+pub returns-clause-numbers : goal.returns-clause-numbers
+returns-clause-numbers c = number_examples
+
+pub returns-clause-readings : goal.returns-clause-readings
+returns-clause-readings c = reading_examples
+
+pub returns-clause-fractions : goal.returns-clause-fractions
+returns-clause-fractions c = fraction_examples

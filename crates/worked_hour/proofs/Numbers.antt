@@ -1,0 +1,36 @@
+-- The numbers of four tables, computed.
+use Rattle.std.proofs.Common.{refl}
+use Rattle.allocation.specs.Groups.{sum_of}
+use Rattle.worked_hour.specs.Numbers.{NumberExamples}
+
+pub number_examples : NumberExamples
+unfolding sum_of
+number_examples = record {
+  among_most_plants = (refl, (refl, (refl, (refl, refl))));
+  among_most_competitive = (refl, (refl, (refl, (refl, refl))));
+  among_most_guaranteed = (refl, (refl, (refl, (refl, refl))));
+  among_most_buyers = (refl, (refl, (refl, (refl, refl))));
+  next_most_plants = (refl, refl);
+  next_most_competitive = (refl, refl);
+  next_most_guaranteed = (refl, refl);
+  next_most_buyers = (refl, refl);
+  settled_counts = refl;
+  table_counts = refl;
+  listed = refl;
+  full_plants = refl;
+  full_competitive = refl;
+  full_guaranteed = refl;
+  full_buyers = refl;
+  room_for_buyers = refl;
+  full_commitments = refl;
+  room_for_commitments = refl;
+  sold_by_plant = refl;
+  losses = (refl, refl);
+  buyer_losses = (refl, refl);
+  competitive_units = (refl, refl);
+  guaranteed_units = (refl, refl);
+  last_limit = (refl, refl);
+  last_declared = (refl, refl);
+  sold = (refl, refl);
+  bought = refl;
+}
