@@ -10,6 +10,7 @@ sys.dont_write_bytecode = True
 sys.path.insert(0, os.path.dirname(os.path.abspath(__file__)))
 
 import hour
+import told_apart
 from hour import (DONE, OUT_OF_TURN, Accepted, AddBuyer, AddCompetitive, AddGuaranteed, AddPlant, Close, Commit, Correct,
                   Header, PriceRow, PutAside, ReadBuyer, ReadCompetitive, ReadGuaranteed, Refused, Settle, SteppedCost,
                   SteppedOffer, TakeBack, Tariff, make_calls, settle_hour)
@@ -355,6 +356,62 @@ def some_hour(seed):
         offers2=[Tariff(400)] * pick.randint(2, 9), readings=readings,
         rows1=[PriceRow(SteppedOffer(steps(True)), SteppedCost(steps(False))) for _ in range(pick.randint(2, 9))],
         rows2=[Tariff(400)] * pick.randint(2, 9))
+
+
+# The figures of told_apart.orders, worked out by hand.
+ORDERS = """\
+U C 1 40 90 6010
+U C 2 18 57 20400
+U C 3 33 47 2268
+U C 4 0 28 2600
+U C 5 5 16 3050
+U G 1 0 28 12040
+U G 2 18 9 3600
+U G 3 23 9 3870
+U G 4 16 6 2400
+U G 5 5 6 2580
+U G 6 0 9 3600
+P 1 100 92 8 36 509 20008
+P 2 56 56 0 38 462 17556
+P 3 12 10 2 10 469 5190
+B 1 174 114
+B 2 59 29
+B 3 72 60
+B 4 0 -66
+H 305 168 0
+"""
+
+
+class ToldApart(unittest.TestCase):
+    def test_orders(self):
+        case = told_apart.orders()
+        answers, figures = settle_hour(**case)
+        refused = [call for call, answer in zip(case["entries"] + case["readings"], answers)
+                   if isinstance(answer, Refused)]
+        self.assertEqual(refused, told_apart.changed()[-4:] + told_apart.sold()[-1:] + told_apart.turned_down())
+        limits = [of.limit for of in figures.units.values()]
+        self.assertEqual(limits, [45, 51, 61, 0, 5, 0, 18, 23, 18, 5, 0])
+        self.assertEqual([of.shares for of in figures.plants.values()], [(51, 49), (40, 16), (6, 6)])
+        self.assertEqual(hour.listing(figures), ORDERS)
+
+    def test_rest_at_com(self):
+        # Com is kWh 70; a is 63, b 72 and the bill 90.
+        row = told_apart.price_rows()[0]
+        reading = told_apart.read_last()[0]
+        self.assertEqual([row.offer.at(kwh) for kwh in (63, 69, 70, 71, 72, 73, 90)],
+                         [110, 130, 140, 150, 160, 170, 180])
+        self.assertEqual(hour.competitive_parts(reading, 90, 40, 0, 1_000, 1_000, row), (2_310, 1_180, 2_520))
+
+    def test_four_counts(self):
+        _, calls = hour.judge_entries(told_apart.counted_entries())
+        kinds = (AddPlant, AddCompetitive, AddGuaranteed, AddBuyer)
+        self.assertEqual([len(hour.of_kind(calls, kind)) for kind in kinds], [4, 5, 6, 7])
+
+    def test_full_group(self):
+        units = (told_apart.COMPETITIVE_UNIT, told_apart.GUARANTEED_UNIT)
+        for one, other in (units, units[::-1]):
+            answers, _ = hour.judge_entries(told_apart.full_group(one, other))
+            self.assertEqual(answers[-4:], [Accepted(128), Accepted(1), Refused(4), Accepted(2)])
 
 
 class AnyCalls(unittest.TestCase):

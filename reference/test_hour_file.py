@@ -8,6 +8,8 @@ sys.dont_write_bytecode = True
 sys.path.insert(0, os.path.dirname(os.path.abspath(__file__)))
 
 import file_cases
+import hour
+import told_apart
 from hour_file import Record, bytes_of, list_file, pieces, write_file
 
 # The words of the worked hour's records, as docs/hour-file.md has them.
@@ -263,6 +265,11 @@ class Cases(unittest.TestCase):
         for place, changed in enumerate(file_cases.changed_bytes(file_cases.Random(1))):
             self.assertEqual([at for at in range(196) if changed[at] != data[at]], [place])
         self.assertEqual(place, 195)
+
+    def test_hours_given_as_calls(self):
+        for case in (told_apart.four_counts(), told_apart.orders()):
+            data = write_file(file_cases.records_of_hour(case))
+            self.assertEqual(list_file(data), hour.listing(hour.settle_hour(**case)[1]))
 
     def test_stored_files(self):
         files = file_cases.stored_files()

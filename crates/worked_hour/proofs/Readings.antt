@@ -17,11 +17,13 @@ reading_examples = record {
   guaranteed_three = (refl, refl);
   uses = refl;
   uses_of_table = refl;
-  billed = (refl, refl);
+  billed = refl;
+  table_billed = refl;
   all_billed = refl;
   active = refl;
   opportunity = refl;
   day = refl;
-  weights = (refl, refl);
+  weights = refl;
+  table_weights = refl;
   shares = refl;
 }

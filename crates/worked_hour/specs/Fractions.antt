@@ -7,7 +7,7 @@ use Rattle.settlement.specs.Payments.{sum_a, sum_b, sum_c, first_part, second_pa
 use Rattle.settlement.specs.declared.payments.PaidUnit.{PaidUnit}
 use Rattle.settling.specs.Derived.{Found, ledger_in}
 use Rattle.settling.specs.Figures.{sum_units, billed_unit, plant_over, hour_over, hour_figures, day_in}
-use Rattle.settling.specs.Ledger.{Ledger}
+use Rattle.settling.specs.Ledger.{Ledger, table_of}
 use Rattle.table.specs.Closing.{plant_group}
 use Rattle.table.specs.ClosingLaw.{group_in}
 use Rattle.table.specs.Effects.{after_entries}
@@ -54,9 +54,25 @@ abbrev pub offer : List Step
 offer =
     step 62 100 ∷ step 1 110 ∷ step 5 120 ∷ step 1 130 ∷ step 1 140 ∷ step 1 150 ∷ step 1 160 ∷ step 1 170 ∷ step 10 180 ∷ []
 
+-- the three sums by this offer and a cost of 1,000
+abbrev pub steep_parts : PaidUnit → List ℕ
+steep_parts u =
+    sum_a u (step_price offer) ∷ sum_b u (step_price offer) (λ k. 1000) ∷ sum_c u (step_price offer) (λ k. 1000) 1000 ∷ []
+
 -- units of both groups of 8 kWh, with the same consumption and loss
 abbrev pub small_units : List Entry
 small_units = AddPlant 2000 ∷ AddCompetitive 1 8 2000 ∷ AddGuaranteed 1 1 8 2000 0 ∷ []
+
+-- one offer
+abbrev pub offers : List (ℕ → ℕ)
+offers = (λ kwh. 300) ∷ []
+
+-- the limit of the one unit of a group, by the entries and by the table
+abbrev pub limit_in_group : ℕ → ℕ
+limit_in_group g = (group_in g (λ f. f) offers 1 (entered small_units)).limit 0
+
+abbrev pub limit_in_table : ℕ → ℕ
+limit_in_table g = (plant_group (λ f. f) offers 1 2000 (table_of g (after_entries small_units empty_table))).limit 0
 
 -- a plant with a unit of each group, which sells 40
 abbrev pub entries : List Entry
@@ -96,11 +112,12 @@ pub record FractionExamples : Type 0 where
   -- 5.12 and not 6, of which 4.8 are left
   pub asked_ends : ends asked ≡ 0 ∷ 5 ∷ []
   pub asked_parts : parts asked ≡ 0 ∷ 15 ∷ 1452 ∷ []
-  pub limits : ((group_in 1 (λ f. f) ((λ kwh. 1) ∷ []) 1 (entered small_units)).limit 0 ∷ (group_in 2 (λ f. f) ((λ kwh. 1) ∷ []) 1 (entered small_units)).limit 0 ∷ [] ≡ 5 ∷ 5 ∷ []) × ((plant_group (λ f. f) ((λ kwh. 1) ∷ []) 1 2000 (after_entries small_units empty_table).competitive).limit 0 ∷ (plant_group (λ f. f) ((λ kwh. 1) ∷ []) 1 2000 (after_entries small_units empty_table).guaranteed).limit 0 ∷ [] ≡ 5 ∷ 5 ∷ [])
+  pub limits : limit_in_group 1 ∷ limit_in_group 2 ∷ [] ≡ 5 ∷ 5 ∷ []
+  pub table_limits : limit_in_table 1 ∷ limit_in_table 2 ∷ [] ≡ 5 ∷ 5 ∷ []
   -- the rest is priced at kWh 70, or each kWh by the raised cost curve
   pub rest_ends : ends (rest 40) ∷ ends (rest 80) ∷ [] ≡ (63 ∷ 72 ∷ []) ∷ (80 ∷ 72 ∷ []) ∷ []
   pub rest_parts : parts (rest 40) ≡ 1196 ∷ 612 ∷ 1260 ∷ []
-  pub rest_by_steps : sum_a (rest 40) (step_price offer) ∷ sum_b (rest 40) (step_price offer) (λ k. 1000) ∷ sum_c (rest 40) (step_price offer) (λ k. 1000) 1000 ∷ [] ≡ 2310 ∷ 1180 ∷ 2520 ∷ []
+  pub rest_by_steps : steep_parts (rest 40) ≡ 2310 ∷ 1180 ∷ 2520 ∷ []
   pub rest_raised : parts (rest 80) ≡ 0 ∷ 0 ∷ 10260 ∷ []
   -- each unit's bill drops its fraction: 9 + 9 and not 19
   pub bills : sum_units (book 10 0) billed_unit ≡ 18

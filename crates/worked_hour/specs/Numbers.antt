@@ -85,34 +85,36 @@ up_to refusal count = refusal ∷ replicate count 0 ++ replicate (5 - count) ref
 -- Numbers are looked up among so many plants, competitive units, guaranteed units and buyers, and so are those of the table.
 abbrev pub Among : List Entry → ℕ → ℕ → ℕ → ℕ → Type 0
 Among entries plants competitive guaranteed buyers =
-    (named (view_in (history entries)) ≡ up_to 1 plants ∷ up_to 1 plants ∷ up_to 1 plants ∷ up_to 3 buyers ∷ replicate 3 (up_to 2 competitive) ++ replicate 3 (up_to 2 guaranteed))
+    (named (view_in (history entries))
+    ≡ replicate 3 (up_to 1 plants) ++ up_to 3 buyers ∷ replicate 3 (up_to 2 competitive) ++ replicate 3 (up_to 2 guaranteed))
     × ((read (view_in (history entries)) ≡ up_to 2 competitive ∷ up_to 2 guaranteed ∷ up_to 3 buyers ∷ [])
     × ((named (view_of (table entries)) ≡ named (view_in (history entries)))
     × ((read (view_of (table entries)) ≡ read (view_in (history entries)))
     × (asked (table entries) ≡ up_to 1 plants ∷ up_to 3 buyers ∷ up_to 2 competitive ∷ up_to 2 guaranteed ∷ []))))
 
--- the answers of a new plant, competitive unit, guaranteed unit, buyer and commitment, by the entries and by the table
-abbrev pub new_rows : List Entry
-new_rows = AddPlant 0 ∷ AddCompetitive 1 0 0 ∷ AddGuaranteed 1 0 0 0 0 ∷ AddBuyer 0 ∷ Commit 1 1 1 ∷ []
+-- a further row of each table: a plant, a competitive and a guaranteed unit of a plant, a buyer and a commitment
+abbrev pub one_more : ℕ → List Entry
+one_more plant = AddPlant 0 ∷ AddCompetitive plant 0 0 ∷ AddGuaranteed plant 0 0 0 0 ∷ AddBuyer 0 ∷ Commit 1 1 1 ∷ []
 
+-- what these answer, by the entries and by the table
 abbrev pub Next : List Entry → List ℕ → Type 0
-Next entries numbers =
-    (map (λ e. answer_in e (history entries)) new_rows ≡ map Ok numbers)
-    × (map (λ e. answer_of e (table entries)) new_rows ≡ map Ok numbers)
+Next entries answers =
+    (map (λ e. answer_in e (history entries)) (one_more 1) ≡ map Ok answers)
+    × (map (λ e. answer_of e (table entries)) (one_more 1) ≡ map Ok answers)
 
 -- how many plants, competitive units, guaranteed units, buyers and commitments settling looks at
 abbrev pub counts : Ledger → List ℕ
 counts a = a.plants ∷ a.units 1 ∷ a.units 2 ∷ a.buyers ∷ length a.commitments ∷ []
 
--- nothing was allocated
+-- nothing is allocated
 abbrev pub nothing : Found
 nothing = record { amount = λ g i. 0; run = λ i. 0 }
 
--- as many lines of competitive units, guaranteed units, plants and buyers
+-- how many lines there are of competitive units, guaranteed units, plants and buyers
 abbrev pub lines : Table → List ℕ
 lines t = map (λ kind. count_of kind t) (OfCompetitive ∷ OfGuaranteed ∷ OfPlants ∷ OfBuyers ∷ [])
 
--- an hour in which a plant has sold 20,000,000
+-- so many rows of each kind, where plant 2 alone has sold 20,000,000
 abbrev pub seen : ℕ → ℕ → ℕ → ℕ → ℕ → View
 seen plants competitive guaranteed buyers commitments = record {
   plants = plants;
@@ -131,11 +133,17 @@ mixed =
     ∷ AddPlant 900 ∷ AddBuyer 50 ∷ AddBuyer 60 ∷ AddGuaranteed 4 61 62 63 0 ∷ AddPlant 1100
     ∷ Commit 1 5 100 ∷ Commit 5 1 20 ∷ Commit 2 5 3 ∷ Commit 5 4 400 ∷ Commit 1 2 7 ∷ []
 
--- unit figures that tell one unit from another
-abbrev pub mark : UnitCase → List ℕ
-mark u = u.plant ∷ u.loss ∷ u.internal ∷ u.feeds ∷ []
+-- a unit's plant, that plant's loss, and what else tells one unit from another
+abbrev pub marks : UnitCase → List ℕ
+marks u = u.plant ∷ u.loss ∷ u.internal ∷ u.feeds ∷ []
 
--- a plant's limits and declared energy in the guaranteed group, with four offers
+-- the first units of a group, by the entries and by the table
+abbrev pub Marked : ℕ → List ℕ → List (List ℕ) → Type 0
+Marked g places units =
+    (map (λ i. marks ((ledger_in nothing (history mixed) []).unit g i)) places ≡ units)
+    × (map (λ i. marks ((ledger_of (table mixed)).unit g i)) places ≡ units)
+
+-- four offers
 abbrev pub offers : List (ℕ → ℕ)
 offers = replicate 4 (λ kwh. 300)
 
@@ -148,27 +156,39 @@ pub record NumberExamples : Type 0 where
   pub next_most_competitive : Next most_competitive (4 ∷ 5 ∷ 2 ∷ 3 ∷ 6 ∷ [])
   pub next_most_guaranteed : Next most_guaranteed (3 ∷ 4 ∷ 5 ∷ 2 ∷ 6 ∷ [])
   pub next_most_buyers : Next most_buyers (2 ∷ 3 ∷ 4 ∷ 5 ∷ 6 ∷ [])
-  pub settled_counts : map (λ entries. counts (ledger_in nothing (history entries) [])) (most_plants ∷ most_guaranteed ∷ []) ≡ (4 ∷ 1 ∷ 2 ∷ 3 ∷ 5 ∷ []) ∷ (2 ∷ 3 ∷ 4 ∷ 1 ∷ 5 ∷ []) ∷ []
-  pub table_counts : map (λ entries. counts (ledger_of (table entries))) (most_plants ∷ most_guaranteed ∷ []) ≡ (4 ∷ 1 ∷ 2 ∷ 3 ∷ 5 ∷ []) ∷ (2 ∷ 3 ∷ 4 ∷ 1 ∷ 5 ∷ []) ∷ []
-  pub listed : map (λ entries. lines (table entries)) (most_plants ∷ most_competitive ∷ []) ≡ (1 ∷ 2 ∷ 4 ∷ 3 ∷ []) ∷ (4 ∷ 1 ∷ 3 ∷ 2 ∷ []) ∷ []
+  pub settled_most_plants : counts (ledger_in nothing (history most_plants) []) ≡ 4 ∷ 1 ∷ 2 ∷ 3 ∷ 5 ∷ []
+  pub settled_most_guaranteed : counts (ledger_in nothing (history most_guaranteed) []) ≡ 2 ∷ 3 ∷ 4 ∷ 1 ∷ 5 ∷ []
+  pub table_most_plants : counts (ledger_of (table most_plants)) ≡ 4 ∷ 1 ∷ 2 ∷ 3 ∷ 5 ∷ []
+  pub table_most_guaranteed : counts (ledger_of (table most_guaranteed)) ≡ 2 ∷ 3 ∷ 4 ∷ 1 ∷ 5 ∷ []
+  pub lines_most_plants : lines (table most_plants) ≡ 1 ∷ 2 ∷ 4 ∷ 3 ∷ []
+  pub lines_most_competitive : lines (table most_competitive) ≡ 4 ∷ 1 ∷ 3 ∷ 2 ∷ []
   -- a table is full by its own count
-  pub full_plants : each (seen 32 128 128 64 768) (AddPlant 0 ∷ []) ++ each (seen 31 128 128 64 768) (AddPlant 0 ∷ []) ++ each (seen 32 0 0 0 0) (AddPlant 0 ∷ AddCompetitive 32 0 0 ∷ AddGuaranteed 32 0 0 0 0 ∷ AddBuyer 0 ∷ []) ≡ 4 ∷ 0 ∷ 4 ∷ 0 ∷ 0 ∷ 0 ∷ []
-  pub full_competitive : each (seen 1 128 127 1 0) (AddCompetitive 1 0 0 ∷ AddGuaranteed 1 0 0 0 0 ∷ []) ≡ 4 ∷ 0 ∷ []
-  pub full_guaranteed : each (seen 1 127 128 1 0) (AddCompetitive 1 0 0 ∷ AddGuaranteed 1 0 0 0 0 ∷ []) ≡ 0 ∷ 4 ∷ []
-  pub full_buyers : each (seen 31 127 127 64 767) (AddPlant 0 ∷ AddCompetitive 1 0 0 ∷ AddGuaranteed 1 0 0 0 0 ∷ AddBuyer 0 ∷ Commit 1 64 1 ∷ []) ≡ 0 ∷ 0 ∷ 0 ∷ 4 ∷ 0 ∷ []
-  pub room_for_buyers : each (seen 32 128 128 63 768) (AddBuyer 0 ∷ []) ≡ 0 ∷ []
-  pub full_commitments : each (seen 31 127 127 63 768) (AddPlant 0 ∷ AddCompetitive 1 0 0 ∷ AddGuaranteed 1 0 0 0 0 ∷ AddBuyer 0 ∷ Commit 1 1 1 ∷ []) ≡ 0 ∷ 0 ∷ 0 ∷ 0 ∷ 4 ∷ []
-  pub room_for_commitments : each (seen 32 128 128 64 767) (Commit 1 1 1 ∷ []) ≡ 0 ∷ []
+  pub full_plants : each (seen 32 127 127 63 767) (one_more 32) ≡ 4 ∷ 0 ∷ 0 ∷ 0 ∷ 0 ∷ []
+  pub room_for_plants : each (seen 31 128 128 64 768) (one_more 1) ≡ 0 ∷ 4 ∷ 4 ∷ 4 ∷ 4 ∷ []
+  pub full_competitive : each (seen 31 128 127 63 767) (one_more 1) ≡ 0 ∷ 4 ∷ 0 ∷ 0 ∷ 0 ∷ []
+  pub room_for_competitive : each (seen 32 127 128 64 768) (one_more 1) ≡ 4 ∷ 0 ∷ 4 ∷ 4 ∷ 4 ∷ []
+  pub full_guaranteed : each (seen 31 127 128 63 767) (one_more 1) ≡ 0 ∷ 0 ∷ 4 ∷ 0 ∷ 0 ∷ []
+  pub room_for_guaranteed : each (seen 32 128 127 64 768) (one_more 1) ≡ 4 ∷ 4 ∷ 0 ∷ 4 ∷ 4 ∷ []
+  pub full_buyers : each (seen 31 127 127 64 767) (one_more 1) ≡ 0 ∷ 0 ∷ 0 ∷ 4 ∷ 0 ∷ []
+  pub room_for_buyers : each (seen 32 128 128 63 768) (one_more 1) ≡ 4 ∷ 4 ∷ 4 ∷ 0 ∷ 4 ∷ []
+  pub full_commitments : each (seen 31 127 127 63 768) (one_more 1) ≡ 0 ∷ 0 ∷ 0 ∷ 0 ∷ 4 ∷ []
+  pub room_for_commitments : each (seen 32 128 128 64 767) (one_more 1) ≡ 4 ∷ 4 ∷ 4 ∷ 4 ∷ 0 ∷ []
   -- what the plant has sold, and not what the buyer bought or what a plant of the buyer's number sold
   pub sold_by_plant : each (seen 3 0 0 3 0) (Commit 1 2 1 ∷ Commit 2 1 1 ∷ Commit 3 2 20000000 ∷ []) ≡ 0 ∷ 7 ∷ 0 ∷ []
   -- losses and units by their numbers
-  pub losses : (map (λ p. loss_in p (history mixed)) numbers ≡ 0 ∷ 200 ∷ 500 ∷ 700 ∷ 900 ∷ 1100 ∷ []) × (map (λ p. (plant_at (table mixed) p).loss) (0 ∷ 1 ∷ 2 ∷ 3 ∷ 4 ∷ []) ≡ 200 ∷ 500 ∷ 700 ∷ 900 ∷ 1100 ∷ [])
-  pub buyer_losses : (map (λ b. buyer_loss_in b (history mixed)) numbers ≡ 0 ∷ 10 ∷ 30 ∷ 40 ∷ 50 ∷ 60 ∷ []) × (map (λ b. (buyer_at (table mixed) b).loss) (0 ∷ 1 ∷ 2 ∷ 3 ∷ 4 ∷ []) ≡ 10 ∷ 30 ∷ 40 ∷ 50 ∷ 60 ∷ [])
-  pub competitive_units : (map (λ i. mark ((ledger_in nothing (history mixed) []).unit 1 i)) (0 ∷ 1 ∷ []) ≡ (2 ∷ 500 ∷ 32 ∷ 0 ∷ []) ∷ (3 ∷ 700 ∷ 52 ∷ 0 ∷ []) ∷ []) × (map (λ i. mark ((ledger_of (table mixed)).unit 1 i)) (0 ∷ 1 ∷ []) ≡ (2 ∷ 500 ∷ 32 ∷ 0 ∷ []) ∷ (3 ∷ 700 ∷ 52 ∷ 0 ∷ []) ∷ [])
-  pub guaranteed_units : (map (λ i. mark ((ledger_in nothing (history mixed) []).unit 2 i)) (0 ∷ 1 ∷ 2 ∷ 3 ∷ []) ≡ (1 ∷ 200 ∷ 13 ∷ 1 ∷ []) ∷ (3 ∷ 700 ∷ 23 ∷ 0 ∷ []) ∷ (2 ∷ 500 ∷ 43 ∷ 1 ∷ []) ∷ (4 ∷ 900 ∷ 63 ∷ 0 ∷ []) ∷ []) × (map (λ i. mark ((ledger_of (table mixed)).unit 2 i)) (0 ∷ 1 ∷ 2 ∷ 3 ∷ []) ≡ (1 ∷ 200 ∷ 13 ∷ 1 ∷ []) ∷ (3 ∷ 700 ∷ 23 ∷ 0 ∷ []) ∷ (2 ∷ 500 ∷ 43 ∷ 1 ∷ []) ∷ (4 ∷ 900 ∷ 63 ∷ 0 ∷ []) ∷ [])
+  pub losses : map (λ p. loss_in p (history mixed)) numbers ≡ 0 ∷ 200 ∷ 500 ∷ 700 ∷ 900 ∷ 1100 ∷ []
+  pub table_losses : map (λ i. (plant_at (table mixed) i).loss) numbers ≡ 200 ∷ 500 ∷ 700 ∷ 900 ∷ 1100 ∷ 0 ∷ []
+  pub buyer_losses : map (λ b. buyer_loss_in b (history mixed)) numbers ≡ 0 ∷ 10 ∷ 30 ∷ 40 ∷ 50 ∷ 60 ∷ []
+  pub table_buyer_losses : map (λ i. (buyer_at (table mixed) i).loss) numbers ≡ 10 ∷ 30 ∷ 40 ∷ 50 ∷ 60 ∷ 0 ∷ []
+  pub competitive_units : Marked 1 (0 ∷ 1 ∷ []) ((2 ∷ 500 ∷ 32 ∷ 0 ∷ []) ∷ (3 ∷ 700 ∷ 52 ∷ 0 ∷ []) ∷ [])
+  pub guaranteed_units : Marked 2 (0 ∷ 1 ∷ []) ((1 ∷ 200 ∷ 13 ∷ 1 ∷ []) ∷ (3 ∷ 700 ∷ 23 ∷ 0 ∷ []) ∷ [])
+  pub further_guaranteed_units : Marked 2 (2 ∷ 3 ∷ []) ((2 ∷ 500 ∷ 43 ∷ 1 ∷ []) ∷ (4 ∷ 900 ∷ 63 ∷ 0 ∷ []) ∷ [])
   -- a guaranteed unit past the last competitive one counts at closing
-  pub last_limit : ((group_in 2 (λ f. f) offers 4 (history mixed)).limit 3 ≡ 56) × ((plant_group (λ f. f) offers 4 900 (table mixed).guaranteed).limit 3 ≡ 56)
-  pub last_declared : (declared_total 2 4 4 (history mixed) ≡ 61) × (declared_by 4 4 (table mixed).guaranteed ≡ 61)
+  pub last_limit : (group_in 2 (λ f. f) offers 4 (history mixed)).limit 3 ≡ 56
+  pub table_last_limit : (plant_group (λ f. f) offers 4 900 (table mixed).guaranteed).limit 3 ≡ 56
+  pub last_declared : declared_total 2 4 4 (history mixed) ≡ 61
+  pub table_last_declared : declared_by 4 4 (table mixed).guaranteed ≡ 61
   -- commitments at plant 5 and buyer 5, past the last unit of either group
-  pub sold : (map (λ p. sold_in p (history mixed)) numbers ≡ 0 ∷ 107 ∷ 3 ∷ 0 ∷ 0 ∷ 420 ∷ []) × (map (view_of (table mixed)).sold numbers ≡ 0 ∷ 107 ∷ 3 ∷ 0 ∷ 0 ∷ 420 ∷ [])
+  pub sold : map (λ p. sold_in p (history mixed)) numbers ≡ 0 ∷ 107 ∷ 3 ∷ 0 ∷ 0 ∷ 420 ∷ []
+  pub table_sold : map (view_of (table mixed)).sold numbers ≡ 0 ∷ 107 ∷ 3 ∷ 0 ∷ 0 ∷ 420 ∷ []
   pub bought : map (λ b. bought_by b (commitments_of (history mixed))) numbers ≡ 0 ∷ 20 ∷ 7 ∷ 0 ∷ 400 ∷ 103 ∷ []

@@ -7,6 +7,7 @@ use Rattle.table.specs.ClosingLaw.{group_in, declared_total}
 use Rattle.table.specs.Effects.{after_entries}
 use Rattle.table.specs.History.{unit_in, empty_table}
 use Rattle.table.specs.Places.{unit_at, plant_at}
+use Rattle.table.specs.Rows.{no_unit_figures}
 use Rattle.table.specs.declared.entries.Entry.{Entry}
 use Rattle.table.specs.declared.entries.Entry.TheVariants.{AddPlant, AddCompetitive, AddGuaranteed, Correct, PutAside, TakeBack}
 use Rattle.table.specs.declared.records.Table.{Table}
@@ -37,10 +38,13 @@ by_table entries g number = terms_of (unit_at (table_of g (table entries)) (numb
 abbrev pub terms : UnitRecord → ℕ × Bool
 terms u = (u.declared, u.aside)
 
--- the terms of competitive unit 1
+-- the terms of a unit of a group, and of competitive unit 1
+abbrev pub Has : List Entry → ℕ → ℕ → ℕ → Bool → Type 0
+Has entries g number declared aside =
+    (terms (by_entries entries g number) ≡ (declared, aside)) × (terms (by_table entries g number) ≡ (declared, aside))
+
 abbrev pub IsFirst : List Entry → ℕ → Bool → Type 0
-IsFirst entries declared aside =
-    (terms (by_entries entries 1 1) ≡ (declared, aside)) × (terms (by_table entries 1 1) ≡ (declared, aside))
+IsFirst entries declared aside = Has entries 1 1 declared aside
 
 -- the terms of both competitive and of both guaranteed units
 abbrev pub all_terms : (ℕ → ℕ → UnitRecord) → List (ℕ × Bool)
@@ -48,6 +52,23 @@ all_terms unit = map terms (unit 1 1 ∷ unit 1 2 ∷ unit 2 1 ∷ unit 2 2 ∷ 
 
 abbrev pub Are : List Entry → List (ℕ × Bool) → Type 0
 Are entries units = (all_terms (by_entries entries) ≡ units) × (all_terms (by_table entries) ≡ units)
+
+-- the whole record of a unit
+abbrev pub IsWhole : List Entry → ℕ → ℕ → UnitRecord → Type 0
+IsWhole entries g number unit = (by_entries entries g number ≡ unit) × (by_table entries g number ≡ unit)
+
+-- guaranteed unit 1 with another declared energy
+abbrev pub declared_60 : UnitRecord
+declared_60 = record {
+  plant = 2;
+  declared = 60;
+  seasonal = Some 20;
+  internal = 300;
+  feeds = 1;
+  aside = false;
+  reading = None;
+  figures = no_unit_figures;
+}
 
 -- two offers for each group
 abbrev pub offers : List (ℕ → ℕ)
@@ -66,6 +87,7 @@ counted_by_table t =
     ++ map (plant_group (λ f. f) offers 2 (plant_at t 1).loss t.guaranteed).limit (0 ∷ 1 ∷ [])
     ++ declared_by 2 2 t.competitive ∷ declared_by 2 2 t.guaranteed ∷ []
 
+-- the same by the entries and by the table
 abbrev pub Count : List Entry → List ℕ → Type 0
 Count entries figures = (counted_by_entries entries ≡ figures) × (counted_by_table (table entries) ≡ figures)
 
@@ -100,14 +122,20 @@ pub record OrderExamples : Type 0 where
   pub aside_in_two : Are (PutAside 2 1 ∷ []) ((50, false) ∷ (70, false) ∷ (30, true) ∷ (40, false) ∷ [])
   pub correct_in_two : Are (Correct 2 1 80 ∷ []) ((50, false) ∷ (70, false) ∷ (80, false) ∷ (40, false) ∷ [])
   pub correct_in_one : Are (Correct 1 2 80 ∷ []) ((50, false) ∷ (80, false) ∷ (30, false) ∷ (40, false) ∷ [])
-  pub all_three_in_two : Are (PutAside 2 2 ∷ Correct 2 2 15 ∷ PutAside 1 2 ∷ Correct 1 2 90 ∷ TakeBack 2 2 ∷ []) ((50, false) ∷ (90, true) ∷ (30, false) ∷ (15, false) ∷ [])
+  pub all_three_in_two :
+      Are (PutAside 2 2 ∷ Correct 2 2 15 ∷ PutAside 1 2 ∷ Correct 1 2 90 ∷ TakeBack 2 2 ∷ [])
+      ((50, false) ∷ (90, true) ∷ (30, false) ∷ (15, false) ∷ [])
   -- a later unit is as it is added, and what is turned down changes nothing
-  pub added_later : terms (by_entries (PutAside 1 2 ∷ Correct 1 3 60 ∷ PutAside 1 3 ∷ AddCompetitive 1 80 0 ∷ []) 1 3) ≡ (80, false)
-  pub turned_down : Are (PutAside 1 1 ∷ Correct 1 1 2000001 ∷ TakeBack 3 1 ∷ TakeBack 1 3 ∷ Correct 0 1 60 ∷ []) ((50, true) ∷ (70, false) ∷ (30, false) ∷ (40, false) ∷ [])
+  pub added_later : Has (PutAside 1 2 ∷ Correct 1 3 60 ∷ PutAside 1 3 ∷ AddCompetitive 1 80 0 ∷ []) 1 3 80 false
+  pub turned_down :
+      Are (PutAside 1 1 ∷ Correct 1 1 2000001 ∷ TakeBack 3 1 ∷ TakeBack 1 3 ∷ Correct 0 1 60 ∷ [])
+      ((50, true) ∷ (70, false) ∷ (30, false) ∷ (40, false) ∷ [])
   -- nothing else of a unit is changed
-  pub whole : (by_entries (PutAside 2 1 ∷ Correct 2 1 60 ∷ TakeBack 2 1 ∷ []) 2 1 ≡ record { plant = 2; declared = 60; seasonal = Some 20; internal = 300; feeds = 1; aside = false; reading = None; figures = record { allocated = 0; billed = 0; payment = 0 } }) × (by_table (PutAside 2 1 ∷ Correct 2 1 60 ∷ TakeBack 2 1 ∷ []) 2 1 ≡ by_entries (PutAside 2 1 ∷ Correct 2 1 60 ∷ TakeBack 2 1 ∷ []) 2 1)
+  pub whole : IsWhole (PutAside 2 1 ∷ Correct 2 1 60 ∷ TakeBack 2 1 ∷ []) 2 1 declared_60
   -- at closing a seasonal energy of 0 makes the limit 0, and the declared energy counts all the same
   pub counted : Count [] (47 ∷ 66 ∷ 18 ∷ 0 ∷ 120 ∷ 70 ∷ [])
   pub counted_aside : Count (Correct 1 1 60 ∷ PutAside 1 1 ∷ PutAside 2 2 ∷ []) (0 ∷ 66 ∷ 18 ∷ 0 ∷ 70 ∷ 30 ∷ [])
-  pub counted_back : Count (PutAside 1 1 ∷ PutAside 2 1 ∷ Correct 1 1 60 ∷ Correct 2 1 35 ∷ TakeBack 1 1 ∷ TakeBack 2 1 ∷ []) (56 ∷ 66 ∷ 18 ∷ 0 ∷ 130 ∷ 75 ∷ [])
+  pub counted_back :
+      Count (PutAside 1 1 ∷ PutAside 2 1 ∷ Correct 1 1 60 ∷ Correct 2 1 35 ∷ TakeBack 1 1 ∷ TakeBack 2 1 ∷ [])
+      (56 ∷ 66 ∷ 18 ∷ 0 ∷ 130 ∷ 75 ∷ [])
   pub counted_lower : Count (PutAside 1 2 ∷ TakeBack 2 2 ∷ Correct 1 1 90 ∷ Correct 1 1 20 ∷ Correct 2 2 15 ∷ []) (18 ∷ 0 ∷ 18 ∷ 0 ∷ 20 ∷ 45 ∷ [])

@@ -1,5 +1,5 @@
 -- Units and buyers that are read again, turned down among others, and what settling then looks at.
-use Rattle.std.specs.Prelude.{◌≡◌, ℕ, ◌-◌, List, [], ◌∷◌, map, Some, None, Ok, Err, Option}
+use Rattle.std.specs.Prelude.{◌≡◌, ℕ, ◌-◌, List, [], ◌∷◌, ◌++◌, map, Some, None, Ok, Err, Option}
 use Rattle.settlement.specs.declared.readings.Control.{Control}
 use Rattle.settling.specs.Derived.{Found, ledger_in, last_reading}
 use Rattle.settling.specs.Figures.{bill_in, sum_units, billed_unit, active_unit, opportunity_unit, weight_in, day_in, share_in}
@@ -80,7 +80,10 @@ abbrev pub bills : Ledger → List (List ℕ)
 bills a = map (λ i. bill_in (a.unit 1 i)) (0 ∷ 1 ∷ []) ∷ map (λ i. bill_in (a.unit 2 i)) (0 ∷ 1 ∷ []) ∷ []
 
 pub record ReadingExamples : Type 0 where
-  pub answers : map (reading_answer_in (view_in (entered entries))) readings ≡ Ok 1 ∷ Ok 1 ∷ Ok 1 ∷ Ok 2 ∷ Ok 2 ∷ Ok 1 ∷ Ok 1 ∷ Ok 3 ∷ Ok 2 ∷ Ok 1 ∷ Ok 2 ∷ Ok 3 ∷ Ok 1 ∷ Ok 1 ∷ Ok 1 ∷ Err OutsideSet ∷ Err Energy ∷ Err Limited ∷ Err NoBuyer ∷ Err NoUnit ∷ Err Energy ∷ []
+  pub answers :
+      map (reading_answer_in (view_in (entered entries))) readings
+      ≡ map Ok (1 ∷ 1 ∷ 1 ∷ 2 ∷ 2 ∷ 1 ∷ 1 ∷ 3 ∷ 2 ∷ 1 ∷ 2 ∷ 3 ∷ 1 ∷ 1 ∷ 1 ∷ [])
+      ++ map Err (OutsideSet ∷ Energy ∷ Limited ∷ NoBuyer ∷ NoUnit ∷ Energy ∷ [])
   pub competitive_one : IsRead 1 1 (Some (competitive 45 35 0 12 1))
   pub competitive_two : IsRead 1 2 (Some (competitive 9 2 0 8 0))
   pub competitive_three : IsRead 1 3 None
@@ -91,11 +94,13 @@ pub record ReadingExamples : Type 0 where
   pub uses : map (λ b. last_use b read) (0 ∷ 1 ∷ 2 ∷ 3 ∷ 4 ∷ []) ≡ None ∷ Some 80 ∷ Some 25 ∷ Some 0 ∷ None ∷ []
   pub uses_of_table : map (λ b. (buyer_at table b).used) (0 ∷ 1 ∷ 2 ∷ 3 ∷ []) ≡ Some 80 ∷ Some 25 ∷ Some 0 ∷ None ∷ []
   -- the last readings are billed, that of the unit aside among them
-  pub billed : (bills book ≡ (42 ∷ 8 ∷ []) ∷ (28 ∷ 6 ∷ []) ∷ []) × (bills (ledger_of table) ≡ (42 ∷ 8 ∷ []) ∷ (28 ∷ 6 ∷ []) ∷ [])
+  pub billed : bills book ≡ (42 ∷ 8 ∷ []) ∷ (28 ∷ 6 ∷ []) ∷ []
+  pub table_billed : bills (ledger_of table) ≡ (42 ∷ 8 ∷ []) ∷ (28 ∷ 6 ∷ []) ∷ []
   pub all_billed : sum_units book billed_unit ≡ 84
   pub active : sum_units book active_unit ≡ 29
   pub opportunity : sum_units book opportunity_unit ≡ 1
   -- 42 allocated, 27 of the active energy are left at the reference point
   pub day : day_in book 0 ≡ 15
-  pub weights : (map (weight_in book) (0 ∷ 1 ∷ 2 ∷ []) ≡ 80 ∷ 27 ∷ 0 ∷ []) × (map (weight_in (ledger_of table)) (0 ∷ 1 ∷ 2 ∷ []) ≡ 80 ∷ 27 ∷ 0 ∷ [])
+  pub weights : map (weight_in book) (0 ∷ 1 ∷ 2 ∷ []) ≡ 80 ∷ 27 ∷ 0 ∷ []
+  pub table_weights : map (weight_in (ledger_of table)) (0 ∷ 1 ∷ 2 ∷ []) ≡ 80 ∷ 27 ∷ 0 ∷ []
   pub shares : map (share_in book) (0 ∷ 1 ∷ 2 ∷ []) ≡ 62 ∷ 22 ∷ 0 ∷ []
