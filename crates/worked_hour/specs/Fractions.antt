@@ -1,6 +1,6 @@
 -- Sums whose fractions, dropped one by one, come to a kWh more or less than dropped once; and the kWh whose price the rest of
 -- the billed energy has.
-use Rattle.std.specs.Prelude.{◌≡◌, ℕ, ◌*◌, List, [], ◌∷◌, map, pos, negsuc, cond, ◌==◌}
+use Rattle.std.specs.Prelude.{◌≡◌, ℕ, ◌*◌, List, [], ◌∷◌, negsuc, cond, ◌==◌}
 use Rattle.curves.specs.Steps.{step_price}
 use Rattle.curves.specs.declared.steps.Step.{Step}
 use Rattle.settlement.specs.Payments.{sum_a, sum_b, sum_c, first_part, second_part}

@@ -42,9 +42,6 @@ most_guaranteed = hour_of 2 3 4 1
 abbrev pub most_buyers : List Entry
 most_buyers = hour_of 1 2 3 4
 
-abbrev pub history : List Entry → List Entry
-history entries = entered entries
-
 abbrev pub table : List Entry → Table
 table entries = after_entries entries empty_table
 
@@ -85,11 +82,11 @@ up_to refusal count = refusal ∷ replicate count 0 ++ replicate (5 - count) ref
 -- Numbers are looked up among so many plants, competitive units, guaranteed units and buyers, and so are those of the table.
 abbrev pub Among : List Entry → ℕ → ℕ → ℕ → ℕ → Type 0
 Among entries plants competitive guaranteed buyers =
-    (named (view_in (history entries))
+    (named (view_in (entered entries))
     ≡ replicate 3 (up_to 1 plants) ++ up_to 3 buyers ∷ replicate 3 (up_to 2 competitive) ++ replicate 3 (up_to 2 guaranteed))
-    × ((read (view_in (history entries)) ≡ up_to 2 competitive ∷ up_to 2 guaranteed ∷ up_to 3 buyers ∷ [])
-    × ((named (view_of (table entries)) ≡ named (view_in (history entries)))
-    × ((read (view_of (table entries)) ≡ read (view_in (history entries)))
+    × ((read (view_in (entered entries)) ≡ up_to 2 competitive ∷ up_to 2 guaranteed ∷ up_to 3 buyers ∷ [])
+    × ((named (view_of (table entries)) ≡ named (view_in (entered entries)))
+    × ((read (view_of (table entries)) ≡ read (view_in (entered entries)))
     × (asked (table entries) ≡ up_to 1 plants ∷ up_to 3 buyers ∷ up_to 2 competitive ∷ up_to 2 guaranteed ∷ []))))
 
 -- a further row of each table: a plant, a competitive and a guaranteed unit of a plant, a buyer and a commitment
@@ -99,7 +96,7 @@ one_more plant = AddPlant 0 ∷ AddCompetitive plant 0 0 ∷ AddGuaranteed plant
 -- what these answer, by the entries and by the table
 abbrev pub Next : List Entry → List ℕ → Type 0
 Next entries answers =
-    (map (λ e. answer_in e (history entries)) (one_more 1) ≡ map Ok answers)
+    (map (λ e. answer_in e (entered entries)) (one_more 1) ≡ map Ok answers)
     × (map (λ e. answer_of e (table entries)) (one_more 1) ≡ map Ok answers)
 
 -- how many plants, competitive units, guaranteed units, buyers and commitments settling looks at
@@ -125,7 +122,7 @@ seen plants competitive guaranteed buyers commitments = record {
   sold = λ plant. cond (plant == 2) 20000000 0;
 }
 
--- Each plant and buyer with a loss of its own, units of both groups among them, each at another plant.
+-- each plant and buyer with a loss of its own, and units of both groups among them, each of a group at another plant
 abbrev pub mixed : List Entry
 mixed =
     AddBuyer 10 ∷ AddPlant 200 ∷ AddBuyer 30 ∷ AddGuaranteed 1 11 12 13 1 ∷ AddPlant 500 ∷ AddBuyer 40 ∷ AddPlant 700
@@ -140,7 +137,7 @@ marks u = u.plant ∷ u.loss ∷ u.internal ∷ u.feeds ∷ []
 -- the first units of a group, by the entries and by the table
 abbrev pub Marked : ℕ → List ℕ → List (List ℕ) → Type 0
 Marked g places units =
-    (map (λ i. marks ((ledger_in nothing (history mixed) []).unit g i)) places ≡ units)
+    (map (λ i. marks ((ledger_in nothing (entered mixed) []).unit g i)) places ≡ units)
     × (map (λ i. marks ((ledger_of (table mixed)).unit g i)) places ≡ units)
 
 -- four offers
@@ -156,8 +153,8 @@ pub record NumberExamples : Type 0 where
   pub next_most_competitive : Next most_competitive (4 ∷ 5 ∷ 2 ∷ 3 ∷ 6 ∷ [])
   pub next_most_guaranteed : Next most_guaranteed (3 ∷ 4 ∷ 5 ∷ 2 ∷ 6 ∷ [])
   pub next_most_buyers : Next most_buyers (2 ∷ 3 ∷ 4 ∷ 5 ∷ 6 ∷ [])
-  pub settled_most_plants : counts (ledger_in nothing (history most_plants) []) ≡ 4 ∷ 1 ∷ 2 ∷ 3 ∷ 5 ∷ []
-  pub settled_most_guaranteed : counts (ledger_in nothing (history most_guaranteed) []) ≡ 2 ∷ 3 ∷ 4 ∷ 1 ∷ 5 ∷ []
+  pub settled_most_plants : counts (ledger_in nothing (entered most_plants) []) ≡ 4 ∷ 1 ∷ 2 ∷ 3 ∷ 5 ∷ []
+  pub settled_most_guaranteed : counts (ledger_in nothing (entered most_guaranteed) []) ≡ 2 ∷ 3 ∷ 4 ∷ 1 ∷ 5 ∷ []
   pub table_most_plants : counts (ledger_of (table most_plants)) ≡ 4 ∷ 1 ∷ 2 ∷ 3 ∷ 5 ∷ []
   pub table_most_guaranteed : counts (ledger_of (table most_guaranteed)) ≡ 2 ∷ 3 ∷ 4 ∷ 1 ∷ 5 ∷ []
   pub lines_most_plants : lines (table most_plants) ≡ 1 ∷ 2 ∷ 4 ∷ 3 ∷ []
@@ -176,19 +173,19 @@ pub record NumberExamples : Type 0 where
   -- what the plant has sold, and not what the buyer bought or what a plant of the buyer's number sold
   pub sold_by_plant : each (seen 3 0 0 3 0) (Commit 1 2 1 ∷ Commit 2 1 1 ∷ Commit 3 2 20000000 ∷ []) ≡ 0 ∷ 7 ∷ 0 ∷ []
   -- losses and units by their numbers
-  pub losses : map (λ p. loss_in p (history mixed)) numbers ≡ 0 ∷ 200 ∷ 500 ∷ 700 ∷ 900 ∷ 1100 ∷ []
+  pub losses : map (λ p. loss_in p (entered mixed)) numbers ≡ 0 ∷ 200 ∷ 500 ∷ 700 ∷ 900 ∷ 1100 ∷ []
   pub table_losses : map (λ i. (plant_at (table mixed) i).loss) numbers ≡ 200 ∷ 500 ∷ 700 ∷ 900 ∷ 1100 ∷ 0 ∷ []
-  pub buyer_losses : map (λ b. buyer_loss_in b (history mixed)) numbers ≡ 0 ∷ 10 ∷ 30 ∷ 40 ∷ 50 ∷ 60 ∷ []
+  pub buyer_losses : map (λ b. buyer_loss_in b (entered mixed)) numbers ≡ 0 ∷ 10 ∷ 30 ∷ 40 ∷ 50 ∷ 60 ∷ []
   pub table_buyer_losses : map (λ i. (buyer_at (table mixed) i).loss) numbers ≡ 10 ∷ 30 ∷ 40 ∷ 50 ∷ 60 ∷ 0 ∷ []
   pub competitive_units : Marked 1 (0 ∷ 1 ∷ []) ((2 ∷ 500 ∷ 32 ∷ 0 ∷ []) ∷ (3 ∷ 700 ∷ 52 ∷ 0 ∷ []) ∷ [])
   pub guaranteed_units : Marked 2 (0 ∷ 1 ∷ []) ((1 ∷ 200 ∷ 13 ∷ 1 ∷ []) ∷ (3 ∷ 700 ∷ 23 ∷ 0 ∷ []) ∷ [])
   pub further_guaranteed_units : Marked 2 (2 ∷ 3 ∷ []) ((2 ∷ 500 ∷ 43 ∷ 1 ∷ []) ∷ (4 ∷ 900 ∷ 63 ∷ 0 ∷ []) ∷ [])
   -- a guaranteed unit past the last competitive one counts at closing
-  pub last_limit : (group_in 2 (λ f. f) offers 4 (history mixed)).limit 3 ≡ 56
+  pub last_limit : (group_in 2 (λ f. f) offers 4 (entered mixed)).limit 3 ≡ 56
   pub table_last_limit : (plant_group (λ f. f) offers 4 900 (table mixed).guaranteed).limit 3 ≡ 56
-  pub last_declared : declared_total 2 4 4 (history mixed) ≡ 61
+  pub last_declared : declared_total 2 4 4 (entered mixed) ≡ 61
   pub table_last_declared : declared_by 4 4 (table mixed).guaranteed ≡ 61
   -- commitments at plant 5 and buyer 5, past the last unit of either group
-  pub sold : map (λ p. sold_in p (history mixed)) numbers ≡ 0 ∷ 107 ∷ 3 ∷ 0 ∷ 0 ∷ 420 ∷ []
+  pub sold : map (λ p. sold_in p (entered mixed)) numbers ≡ 0 ∷ 107 ∷ 3 ∷ 0 ∷ 0 ∷ 420 ∷ []
   pub table_sold : map (view_of (table mixed)).sold numbers ≡ 0 ∷ 107 ∷ 3 ∷ 0 ∷ 0 ∷ 420 ∷ []
-  pub bought : map (λ b. bought_by b (commitments_of (history mixed))) numbers ≡ 0 ∷ 20 ∷ 7 ∷ 0 ∷ 400 ∷ 103 ∷ []
+  pub bought : map (λ b. bought_by b (commitments_of (entered mixed))) numbers ≡ 0 ∷ 20 ∷ 7 ∷ 0 ∷ 400 ∷ 103 ∷ []

@@ -6,7 +6,7 @@ use Rattle.settling.specs.Figures.{bill_in, sum_units, billed_unit, active_unit,
 use Rattle.settling.specs.Ledger.{Ledger, table_of, ledger_of}
 use Rattle.table.specs.Effects.{after_entries}
 use Rattle.table.specs.History.{view_in, empty_table}
-use Rattle.table.specs.Metered.{last_competitive, last_guaranteed, last_use, reading_answer_in}
+use Rattle.table.specs.Metered.{last_use, reading_answer_in}
 use Rattle.table.specs.Places.{unit_at, buyer_at}
 use Rattle.table.specs.Readings.{after_readings}
 use Rattle.table.specs.declared.entries.Entry.{Entry}
