@@ -106,6 +106,17 @@ def priced_unit_cases():
     return "case units with their rows\n" + answer_lines(hour.judge_entries(entries)[0])
 
 
+# How a refusal of a step list or a rate prints, after its number. Those of the book print with nothing behind it.
+LIST_TEXTS = {8: ": not 1 to 10 steps, a width not 1 to 2000000, or a price that falls", 9: ": a price over 10000000"}
+
+
+def refusal_text_cases():
+    """Each refusal of the book and of a list; and each again, as that of a unit with its rows."""
+    texts = [f"refused with {number}\n" for number in (1, 2, 3, 4, 5, 6, 7, 9, 10, 11)]
+    texts += [f"refused with {number}{LIST_TEXTS[number]}\n" for number in (8, 9)]
+    return "case refusal texts\n" + "".join(text * 2 for text in texts)
+
+
 # Fixed hours --------------------------------------------------------------------------------------------------------
 
 HEADER = Header(1_000, 10_000, 200, 30, 400)
@@ -234,6 +245,17 @@ def small_hour(readings):
     return fixed_hour(small_entries(), readings, 1)
 
 
+def units_without_rows():
+    """One row for two units of each group; net energies at their limit and over it, with a loss and without."""
+    entries = [AddPlant(0), AddPlant(200), AddBuyer(0), AddCompetitive(1, 40, 0), AddCompetitive(1, 60, 0),
+               AddGuaranteed(1, 30, 20, 0, 1), AddGuaranteed(2, 50, 50, 0, 1), Commit(1, 1, 70), Commit(2, 1, 15)]
+    readings = [ReadCompetitive(1, net=MOST_KWH, accepted=100), ReadCompetitive(1, net=MOST_KWH + 1),
+                ReadCompetitive(2, net=MOST_KWH), ReadCompetitive(3, net=MOST_KWH + 1), ReadGuaranteed(1, net=MOST_KWH),
+                ReadGuaranteed(2, net=MOST_KWH), ReadGuaranteed(2, net=MOST_KWH + 1),
+                ReadGuaranteed(3, net=MOST_KWH + 1), ReadBuyer(1, 7)]
+    return fixed_hour(entries, readings, 1)
+
+
 def hours_let_go():
     """An open and a closed hour are let go. What is entered and read then is in no later hour."""
     entered, calls = hour.judge_entries(small_entries())
@@ -257,7 +279,7 @@ def told_apart_cases():
 def fixed_cases():
     no_units = fixed_hour([AddPlant(0), AddBuyer(0), Commit(1, 1, 50)], [ReadBuyer(1, 7)], 0)
     return "".join((
-        header_cases(), step_list_cases(), priced_unit_cases(),
+        header_cases(), step_list_cases(), priced_unit_cases(), refusal_text_cases(),
         hour_text("case nothing entered", fixed_hour([], [], 0), (0, 1)),
         hour_text("case limits", limits_hour(), (0, 1, 2, 3, 4, 5, 7, 8, 2**32 - 1)),
         hour_text("case full tables", fixed_hour(full_tables(), full_readings(), 130), (1, 32, 33, 64, 65, 128, 129)),
@@ -265,7 +287,9 @@ def fixed_cases():
         hour_text("case plant without units", no_units),
         hour_text("case small hour", small_hour(last_readings())),
         hour_text("case nothing read", small_hour([])),
-        hours_let_go(), told_apart_cases()))
+        hours_let_go(),
+        told_apart_cases(),
+        hour_text("case units without rows", units_without_rows(), (1, 2, 3))))
 
 
 # Pseudo-random hours ------------------------------------------------------------------------------------------------

@@ -4,6 +4,7 @@
 
 mod calls;
 mod drawn_hours;
+mod edge_hours;
 mod entry_draws;
 mod fixed_hours;
 mod full_tables;
@@ -12,6 +13,7 @@ mod limit_readings;
 mod makings;
 mod mixed_hours;
 mod reading_draws;
+mod refusal_texts;
 mod report;
 mod row_draws;
 mod runs;
@@ -28,7 +30,9 @@ const MIXED_HOURS: u32 = 30;
 fn all_cases(heap: Global) -> anyhow::Result<String> {
     let mut cases = Cases::new(heap);
     cases.report.makings()?;
+    cases.report.refusal_texts()?;
     cases.fixed_hours()?;
+    cases.units_without_rows()?;
     for number in 1..=HOURS {
         cases.drawn_hour(number)?;
     }

@@ -8,3 +8,8 @@ pub mod Orders
 pub mod Numbers
 pub mod Readings
 pub mod Fractions
+pub mod Edges
+pub mod Rooms
+pub mod Spelled
+pub mod Sample
+pub mod Merits

@@ -1,5 +1,6 @@
 // The worked examples, as statements that are computed on the definitions.
 ghost use Rattle.worked_hour.specs.Calls.{CallExamples};
+ghost use Rattle.worked_hour.specs.Edges.{EdgeExamples};
 ghost use Rattle.worked_hour.specs.Examples.{WorkedExamples};
 ghost use Rattle.worked_hour.specs.File.{FileExamples};
 ghost use Rattle.worked_hour.specs.Fractions.{FractionExamples};
@@ -7,7 +8,11 @@ ghost use Rattle.worked_hour.specs.Hour.{FullerHour};
 ghost use Rattle.worked_hour.specs.Numbers.{NumberExamples};
 ghost use Rattle.worked_hour.specs.Orders.{OrderExamples};
 ghost use Rattle.worked_hour.specs.Readings.{ReadingExamples};
+ghost use Rattle.worked_hour.specs.Merits.{MeritExamples};
 ghost use Rattle.worked_hour.specs.Refused.{RefusalTable};
+ghost use Rattle.worked_hour.specs.Rooms.{FullTables};
+ghost use Rattle.worked_hour.specs.Sample.{SampleHour};
+ghost use Rattle.worked_hour.specs.Spelled.{RefusalTexts};
 ghost use Rattle.worked_hour.specs.Values.{SmallExamples};
 
 // Its promise is that every worked example holds of the definitions.
@@ -22,4 +27,9 @@ pub(crate) fn worked_examples()
     ensures numbers { NumberExamples }
     ensures readings { ReadingExamples }
     ensures fractions { FractionExamples }
+    ensures edges { EdgeExamples }
+    ensures rooms { FullTables }
+    ensures texts { RefusalTexts }
+    ensures sample { SampleHour }
+    ensures merits { MeritExamples }
 {}

@@ -3,6 +3,11 @@ use Rattle.worked_hour.proofs.Fractions.{fraction_examples}
 use Rattle.worked_hour.proofs.Numbers.{number_examples}
 use Rattle.worked_hour.proofs.Orders.{order_examples}
 use Rattle.worked_hour.proofs.Readings.{reading_examples}
+use Rattle.worked_hour.proofs.Edges.{edge_examples}
+use Rattle.worked_hour.proofs.Merits.{merit_examples}
+use Rattle.worked_hour.proofs.Rooms.{full_tables}
+use Rattle.worked_hour.proofs.Sample.{sample_hour}
+use Rattle.worked_hour.proofs.Spelled.{refusal_texts}
 use Rattle.worked_hour.proofs.examples.worked_examples.Goals as goal
 
 pub returns-clause-examples : goal.returns-clause-examples
@@ -34,3 +39,18 @@ returns-clause-readings c = reading_examples
 
 pub returns-clause-fractions : goal.returns-clause-fractions
 returns-clause-fractions c = fraction_examples
+
+pub returns-clause-edges : goal.returns-clause-edges
+returns-clause-edges c = edge_examples
+
+pub returns-clause-rooms : goal.returns-clause-rooms
+returns-clause-rooms c = full_tables
+
+pub returns-clause-texts : goal.returns-clause-texts
+returns-clause-texts c = refusal_texts
+
+pub returns-clause-sample : goal.returns-clause-sample
+returns-clause-sample c = sample_hour
+
+pub returns-clause-merits : goal.returns-clause-merits
+returns-clause-merits c = merit_examples
