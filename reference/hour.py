@@ -6,10 +6,14 @@ docs/listing.md, and shares no code with the engine.
 
 Every figure is derived from the list of accepted calls; nothing is kept between calls but that list.
 
+Costs and splits go kWh by kWh, which takes minutes where energies are large. stretches.py has the same by stretches of
+equal price; what sums them is an argument of the functions that close and settle.
+
 `settle_hour` judges the calls of one hour and gives the answers and the figures; `make_calls` takes any list of calls;
 `listing` writes the figures as text.
 Run without arguments it prints the listing of the worked hour.
 """
+from collections.abc import Callable
 from dataclasses import dataclass
 from heapq import merge
 from itertools import islice
@@ -457,6 +461,17 @@ def split(share, limits, offers):
     return amounts, share - sum(amounts.values())
 
 
+@dataclass(frozen=True)
+class Sums:
+    """How a cost and a split are summed up: `cost` takes a curve and its first and last kWh, `split` a share and a
+    group's limits and offers by unit."""
+    cost: Callable
+    split: Callable
+
+
+KWH_BY_KWH = Sums(Curve.cost, split)
+
+
 @dataclass
 class Closed:
     """What closing derives: by (group, unit), and by plant."""
@@ -468,7 +483,7 @@ class Closed:
     run: dict
 
 
-def close_hour(calls, offers1, offers2):
+def close_hour(calls, offers1, offers2, sums=KWH_BY_KWH):
     offers = {COMPETITIVE: dict(enumerate(offers1, 1)), GUARANTEED: dict(enumerate(offers2, 1))}
     closed = Closed({}, {}, {}, {}, {}, {})
     for group in ADDS:
@@ -488,7 +503,7 @@ def close_hour(calls, offers1, offers2):
                 call = units_of(calls, group)[unit]
                 gross = declared_gross(calls, group, unit) if group == COMPETITIVE else call.seasonal
                 limits[unit] = limit_of(gross, call.rho, added.loss)
-            amounts, uncovered[group] = split(shares[group], limits, offers[group])
+            amounts, uncovered[group] = sums.split(shares[group], limits, offers[group])
             for unit in counting[group]:
                 closed.limits[group, unit] = limits[unit]
                 closed.amounts[group, unit] = amounts[unit]
@@ -506,7 +521,7 @@ def carried(energy, loss):
     return energy * (10_000 - loss) // 10_000
 
 
-def competitive_parts(reading, bill, amount, rho, loss, ceiling, row):
+def competitive_parts(reading, bill, amount, rho, loss, ceiling, row, sums=KWH_BY_KWH):
     """The three parts A, B and C of what a competitive unit is paid."""
     com = reading.accepted + reading.lost - reading.limited
     a = min(max(carried(com, loss), amount), bill)
@@ -514,17 +529,15 @@ def competitive_parts(reading, bill, amount, rho, loss, ceiling, row):
     b2 = reading.alpha * min(limit_of(reading.executed, rho, loss), bill)
     b = max(b1, b2)
     offer = Modified(amount, row.offer)
-    part_a = offer.cost(1, a)
-    part_b = 0 if b <= a else min(row.cost.cost(a + 1, b), offer.cost(a + 1, b))
-    if part_a == 0:
-        part_c = Raised(ceiling, row.cost).cost(max(a, b) + 1, bill)
-    else:
-        part_c = sum(offer.price(com) for _ in range(max(a, b) + 1, bill + 1))
+    part_a = sums.cost(offer, 1, a)
+    part_b = 0 if b <= a else min(sums.cost(row.cost, a + 1, b), sums.cost(offer, a + 1, b))
+    beyond = Raised(ceiling, row.cost) if part_a == 0 else Tariff(offer.price(com))
+    part_c = sums.cost(beyond, max(a, b) + 1, bill)
     return part_a, part_b, part_c
 
 
-def guaranteed_payment(bill, beta, saving, offer):
-    return offer.cost(1, bill) + bill * beta * saving
+def guaranteed_payment(bill, beta, saving, offer, sums=KWH_BY_KWH):
+    return sums.cost(offer, 1, bill) + bill * beta * saving
 
 
 def maintenance_mark(day, minute):
@@ -620,7 +633,7 @@ class Figures:
     missing: list
 
 
-def settle_closed(header, calls, closed, readings, rows1, rows2):
+def settle_closed(header, calls, closed, readings, rows1, rows2, sums=KWH_BY_KWH):
     """The figures, from the accepted entries, what closing derived, the accepted readings and the price rows."""
     rows = {COMPETITIVE: dict(enumerate(rows1, 1)), GUARANTEED: dict(enumerate(rows2, 1))}
     plants, buyers = numbered(calls, AddPlant), numbered(calls, AddBuyer)
@@ -638,9 +651,9 @@ def settle_closed(header, calls, closed, readings, rows1, rows2):
                 payment = 0
             elif group == COMPETITIVE:
                 row = rows[group][unit]
-                payment = sum(competitive_parts(reading, bill, amount, call.rho, loss, header.ceiling, row))
+                payment = sum(competitive_parts(reading, bill, amount, call.rho, loss, header.ceiling, row, sums))
             else:
-                payment = guaranteed_payment(bill, call.beta, header.saving, rows[group][unit])
+                payment = guaranteed_payment(bill, call.beta, header.saving, rows[group][unit], sums)
             units[group, unit] = UnitFigures(call.plant, closed.limits[group, unit], amount, bill, payment)
 
     billed = sum(figures.bill for figures in units.values())
@@ -672,7 +685,7 @@ def settle_closed(header, calls, closed, readings, rows1, rows2):
     return Figures(units, plant_figures, buyer_figures, billed, sold, unassigned, missing)
 
 
-def settle_hour(header, entries, offers1, offers2, readings, rows1, rows2):
+def settle_hour(header, entries, offers1, offers2, readings, rows1, rows2, sums=KWH_BY_KWH):
     """One hour from opening to settling: the answers of all entries and then of all readings, and the figures.
 
     The rows go by number: the first of `offers1` is the offer of competitive unit 1. `rows1` are PriceRow records,
@@ -681,9 +694,9 @@ def settle_hour(header, entries, offers1, offers2, readings, rows1, rows2):
     if header_refusal(header) is not None:
         raise ValueError("the header is refused, so there is no hour")
     entry_answers, calls = judge_entries(entries)
-    closed = close_hour(calls, offers1, offers2)
+    closed = close_hour(calls, offers1, offers2, sums)
     reading_answers, accepted = judge_readings(readings, calls)
-    figures = settle_closed(header, calls, closed, accepted, rows1, rows2)
+    figures = settle_closed(header, calls, closed, accepted, rows1, rows2, sums)
     return entry_answers + reading_answers, figures
 
 
@@ -697,7 +710,7 @@ def first_place(calls, kind, start):
     return next((at for at in range(start, len(calls)) if isinstance(calls[at], kind)), len(calls))
 
 
-def make_calls(header, calls):
+def make_calls(header, calls, sums=KWH_BY_KWH):
     """Any list of calls on an empty hour: what each is told, and the figures where the hour is settled, else None.
 
     The first closing parts the entries before it from the readings behind it, and the first settling behind it ends
@@ -713,8 +726,8 @@ def make_calls(header, calls):
     told = dict(zip(entries + readings, entry_answers + reading_answers)) | {closing: DONE, settling: DONE}
     figures = None
     if settling < len(calls):
-        closed = close_hour(entered, calls[closing].offers1, calls[closing].offers2)
-        figures = settle_closed(header, entered, closed, read, calls[settling].rows1, calls[settling].rows2)
+        closed = close_hour(entered, calls[closing].offers1, calls[closing].offers2, sums)
+        figures = settle_closed(header, entered, closed, read, calls[settling].rows1, calls[settling].rows2, sums)
     return [told.get(at, OUT_OF_TURN) for at in range(len(calls))], figures
 
 

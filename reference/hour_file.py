@@ -18,8 +18,8 @@ sys.dont_write_bytecode = True
 sys.path.insert(0, os.path.dirname(os.path.abspath(__file__)))
 
 import hour
-from hour import (AddBuyer, AddCompetitive, AddGuaranteed, AddPlant, Commit, Correct, PriceRow, PutAside, ReadBuyer,
-                  ReadCompetitive, ReadGuaranteed, Refused, SteppedCost, SteppedOffer, TakeBack, Tariff)
+from hour import (KWH_BY_KWH, AddBuyer, AddCompetitive, AddGuaranteed, AddPlant, Commit, Correct, PriceRow, PutAside,
+                  ReadBuyer, ReadCompetitive, ReadGuaranteed, Refused, SteppedCost, SteppedOffer, TakeBack, Tariff)
 
 WORD = 4
 MOST_BYTES = 65_536
@@ -193,12 +193,12 @@ def hour_of(records):
                 readings=reading_calls(records), rows1=rows, rows2=tariffs)
 
 
-def settled_listing(records):
+def settled_listing(records, sums):
     """The listing of an hour none of whose calls is turned down."""
-    return hour.listing(hour.settle_hour(**hour_of(records))[1])
+    return hour.listing(hour.settle_hour(**hour_of(records), sums=sums)[1])
 
 
-def list_file(data):
+def list_file(data, sums=KWH_BY_KWH):
     """The listing of an hour file, or the line of its first fault."""
     if len(data) % WORD != 0 or len(data) > MOST_BYTES:
         return Fault("F", 14, 0).line()
@@ -207,7 +207,7 @@ def list_file(data):
     records = [record_of(piece) for _, piece in found]
     good, of_form = form_fault("".join(map(letter, records)), places, len(data))
     fault = call_fault(records[:good], places) or of_form
-    return fault.line() if fault else settled_listing(records)
+    return fault.line() if fault else settled_listing(records, sums)
 
 
 if __name__ == "__main__":
