@@ -594,7 +594,7 @@ def count_units(counts, case, calls, figures):
             counts[f"β {added.beta}, with a payment"] += of.payment > 0
 
 
-def count_payment(counts, case, calls, of, unit, reading):
+def count_payment(counts, case, calls, of, unit, reading, sums):
     """The branches of what a competitive unit with a price row is paid."""
     added, row = hour.units_of(calls, COMPETITIVE)[unit], case["rows1"][unit - 1]
     loss = hour.numbered(calls, AddPlant)[added.plant].loss
@@ -603,19 +603,20 @@ def count_payment(counts, case, calls, of, unit, reading):
     b1 = min(hour.carried(reading.accepted + reading.lost, loss), of.bill)
     b2 = reading.alpha * min(hour.limit_of(reading.executed, added.rho, loss), of.bill)
     b = max(b1, b2)
-    part_a, _, _ = hour.competitive_parts(reading, of.bill, of.allocated, added.rho, loss, case["header"].ceiling, row)
+    ceiling = case["header"].ceiling
+    part_a, _, _ = hour.competitive_parts(reading, of.bill, of.allocated, added.rho, loss, ceiling, row, sums)
     counts["a is " + ("the bill" if a == of.bill else "Co" if of.allocated > com else "r(Com)")] += 1
     counts[f"α {reading.alpha}"] += 1
     counts["b2 > b1" if b2 > b1 else "b2 <= b1"] += 1
     counts["b > a" if b > a else "b <= a"] += 1
     if b > a:
-        by_cost, by_offer = (curve.cost(a + 1, b) for curve in (row.cost, hour.Modified(of.allocated, row.offer)))
+        by_cost, by_offer = (sums.cost(curve, a + 1, b) for curve in (row.cost, hour.Modified(of.allocated, row.offer)))
         counts["B by " + ("the cost curve" if by_cost < by_offer else "the offer" if by_offer < by_cost else "both")] += 1
     counts["A = 0, a = 0" if a == 0 else "A = 0, a > 0" if part_a == 0 else "A > 0"] += 1
     if max(a, b) < of.bill:
         counts["C > 0 kWh by the raised cost" if part_a == 0 else "C > 0 kWh by the offer at Com"] += 1
         raised = max(row.cost.at(kwh) * 12 // 10 for kwh in (max(a, b) + 1, of.bill))
-        counts["C reaches the ceiling"] += part_a == 0 and raised > case["header"].ceiling
+        counts["C reaches the ceiling"] += part_a == 0 and raised > ceiling
 
 
 def count_plants(counts, figures, money):
@@ -647,8 +648,8 @@ def count_readings(counts, calls, read):
     return adjustments
 
 
-def count_branches(counts, case):
-    answers, figures = hour.settle_hour(**case)
+def count_branches(counts, case, sums=hour.KWH_BY_KWH):
+    answers, figures = hour.settle_hour(**case, sums=sums)
     count_calls(counts, case, answers)
     _, calls = hour.judge_entries(case["entries"])
     read, missing = hour.last_readings(calls, hour.judge_readings(case["readings"], calls)[1])
@@ -656,7 +657,7 @@ def count_branches(counts, case):
     count_units(counts, case, calls, figures)
     for (group, unit), of in figures.units.items():
         if group == COMPETITIVE and unit <= len(case["rows1"]):
-            count_payment(counts, case, calls, of, unit, read[ReadCompetitive, unit])
+            count_payment(counts, case, calls, of, unit, read[ReadCompetitive, unit], sums)
     money = sum(of.payment for of in figures.units.values()) + count_readings(counts, calls, read)
     counts["hour with negative money"] += money < 0
     count_plants(counts, figures, money)

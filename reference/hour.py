@@ -6,8 +6,8 @@ docs/listing.md, and shares no code with the engine.
 
 Every figure is derived from the list of accepted calls; nothing is kept between calls but that list.
 
-Costs and splits go kWh by kWh, which takes minutes where energies are large. stretches.py has the same by stretches of
-equal price; what sums them is an argument of the functions that close and settle.
+Costs and splits are summed kWh by kWh. That takes minutes for an hour of full energies, so stretches.py sums them by
+stretches of equal price. Which of the two is an argument of what closes and settles.
 
 `settle_hour` judges the calls of one hour and gives the answers and the figures; `make_calls` takes any list of calls;
 `listing` writes the figures as text.

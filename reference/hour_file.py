@@ -7,7 +7,8 @@ engine.
 The whole file is cut into pieces first, each of them one record or none. Where the pieces stop being in order is found
 over all of them at once, and the calls of the records before that are judged as one list.
 
-Run as a program it reads an hour file on standard input and prints what `list_file` answers.
+Run as a program it reads an hour file on standard input and prints what `list_file` answers. It sums kWh by kWh, or with
+the argument --stretches by stretches of equal price.
 """
 import os
 import re
@@ -20,6 +21,7 @@ sys.path.insert(0, os.path.dirname(os.path.abspath(__file__)))
 import hour
 from hour import (KWH_BY_KWH, AddBuyer, AddCompetitive, AddGuaranteed, AddPlant, Commit, Correct, PriceRow, PutAside,
                   ReadBuyer, ReadCompetitive, ReadGuaranteed, Refused, SteppedCost, SteppedOffer, TakeBack, Tariff)
+from stretches import BY_STRETCHES
 
 WORD = 4
 MOST_BYTES = 65_536
@@ -210,5 +212,12 @@ def list_file(data, sums=KWH_BY_KWH):
     return fault.line() if fault else settled_listing(records, sums)
 
 
+def main():
+    if sys.argv[1:] not in ([], ["--stretches"]):
+        sys.exit("usage: hour_file.py [--stretches]")
+    sums = BY_STRETCHES if sys.argv[1:] else KWH_BY_KWH
+    print(list_file(sys.stdin.buffer.read(), sums), end="")
+
+
 if __name__ == "__main__":
-    print(list_file(sys.stdin.buffer.read()), end="")
+    main()

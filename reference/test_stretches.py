@@ -10,10 +10,11 @@ sys.path.insert(0, os.path.dirname(os.path.abspath(__file__)))
 
 import cases
 import file_cases
+import full_hours
 import hour
 from hour import (KWH_BY_KWH, MOST_KWH, MOST_PRICE, AddBuyer, AddCompetitive, AddPlant, Commit, Header, Modified,
                   PriceRow, Raised, ReadCompetitive, SteppedCost, SteppedOffer, Tariff)
-from hour_file import list_file, write_file
+from hour_file import MOST_BYTES, list_file, write_file
 from stretches import BY_STRETCHES, stretches
 from test_hour import some_hour
 
@@ -120,6 +121,8 @@ class Payments(unittest.TestCase):
                               (2_000_000, (0, 0, 0))):
             self.assertEqual(hour.competitive_parts(reading, 2_000_000, amount, 0, 0, 1_000, self.ROW, BY_STRETCHES),
                              parts)
+        self.assertEqual(hour.competitive_parts(reading, 2_000_000, 1_500_000, 0, 0, 400, self.ROW, BY_STRETCHES),
+                         (0, 0, 200_000_000))
         self.assertEqual(hour.guaranteed_payment(2_000_000, 1, 10, self.ROW.offer, BY_STRETCHES), 820_000_000)
 
     def test_small_parts(self):
@@ -184,6 +187,14 @@ class Files(unittest.TestCase):
         draw = file_cases.Random(8)
         self.same(write_file(file_cases.largest_hour(draw)))
         self.same(write_file(file_cases.large_energies(draw)))
+
+
+class FullHours(unittest.TestCase):
+    def test_drawn_hours_are_lawful(self):
+        for seed in range(8):
+            data = write_file(full_hours.full_hour(file_cases.Random(seed)))
+            self.assertLessEqual(len(data), MOST_BYTES)
+            self.assertEqual(list_file(data, BY_STRETCHES).splitlines()[-1][0], "H", seed)
 
 
 if __name__ == "__main__":
