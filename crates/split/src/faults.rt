@@ -1,14 +1,19 @@
 // What can be wrong with a line of a job.
+ghost use Rattle.std.specs.Prelude.{◌≡◌};
+ghost use Rattle.split.specs.Faults.{IsMemory};
+ghost use Rattle.split.specs.declared.faults.Fault.TheVariants.{List};
+
 use allocation::MAX_UNITS;
 use curves::CurveRefusal;
-use std::alloc::AllocError;
+use std::alloc::{AllocError, AllocFailed};
 use thiserror::Error;
+
 /// Why a line is not taken.
 #[derive(Clone, Copy, Debug, Error)]
 pub enum Fault {
     /// The list of steps is refused.
     #[error(transparent)]
-    List(#[from] CurveRefusal),
+    List(CurveRefusal),
     #[error("the first word is neither unit nor share")]
     UnknownWord,
     #[error("a word is no number from 0 to {most}", most = u32::MAX)]
@@ -24,5 +29,30 @@ pub enum Fault {
     #[error("more than {most} units", most = MAX_UNITS)]
     TooManyUnits,
     #[error("no memory is left")]
-    Memory(#[from(alloc)] AllocError),
+    Memory(AllocError),
+}
+
+// By hand, here and below: what a derive writes doesn't tell which fault comes.
+impl From<CurveRefusal> for Fault {
+    ghost from_gives = { λ refusal fault. fault ≡ List refusal };
+
+    fn from(refusal: CurveRefusal) -> Fault {
+        Fault::List(refusal)
+    }
+}
+
+impl From<AllocError> for Fault {
+    ghost from_gives = { λ _ fault. IsMemory fault };
+
+    fn from(e: AllocError) -> Fault {
+        Fault::Memory(e)
+    }
+}
+
+impl<T: Drop> From<AllocFailed<T>> for Fault {
+    ghost from_gives = { λ _ fault. IsMemory fault };
+
+    fn from(failed: AllocFailed<T>) -> Fault {
+        AllocError::from(failed).into()
+    }
 }

@@ -1,7 +1,8 @@
 // Runs a job: takes its units, and answers its shares.
-ghost use Rattle.std.specs.Prelude.{◌≡◌, ◌≤◌, true, [], ◌∷◌, ◌++◌, IfOk, Err, vec_len, string_bytes, OnOk};
+ghost use Rattle.std.specs.Prelude.{◌≡◌, ◌<◌, ◌≤◌, true, false, [], ◌∷◌, ◌++◌, length, codes, IfOk, IfErr, Err, vec_len, string_bytes, OnOk, IsUtf8};
 ghost use Rattle.split.specs.Answers.{Answer, AddsAnswer};
-ghost use Rattle.split.specs.declared.faults.Fault.TheVariants.{UnitAfterShare};
+ghost use Rattle.split.specs.Faults.{IsMemory};
+ghost use Rattle.split.specs.declared.faults.Fault.TheVariants.{UnitAfterShare, TooManyUnits};
 
 use crate::faults::Fault;
 use crate::lines::{Line, read_line};
@@ -9,9 +10,11 @@ use crate::report::share_text;
 use allocation::{MAX_UNITS, split, total_cost};
 use curves::SteppedOffer;
 use std::alloc::{AllocError, Global};
+use std::io;
+use std::io::Read;
 
 /// The most bytes of a job.
-pub const MAX_INPUT: u64 = 1 << 20;
+const MAX_INPUT: u64 = 1 << 20;
 
 // A job as far as it was read, and the text that answers it.
 #[derive(Drop)]
@@ -47,6 +50,10 @@ impl Job {
         ensures offers { OnOk result (self.new.offers.items ≡ self.old.offers.items ++ offer ∷ []) }
         ensures few { OnOk result (vec_len self.new.limits ≤ 128) }
         ensures late { self.old.shares_begun ≡ true → result ≡ Err UnitAfterShare }
+        ensures full { self.old.shares_begun ≡ false → 128 ≤ vec_len self.old.limits → result ≡ Err TooManyUnits }
+        ensures room { self.old.shares_begun ≡ false → vec_len self.old.limits < 128 → IfErr result IsMemory }
+        ensures text { string_bytes self.new.text ≡ string_bytes self.old.text }
+        ensures begun { self.new.shares_begun ≡ self.old.shares_begun }
     {
         if self.shares_begun {
             return Err(Fault::UnitAfterShare);
@@ -61,7 +68,9 @@ impl Job {
 
     // Splits a share over the units, and writes down what came of it.
     fn answer_share(&mut self, heap: Global, share: u32) -> Result<(), Fault>
-        ensures { OnOk result (AddsAnswer self.old.offers.items self.old.limits.items share (string_bytes self.old.text) (string_bytes self.new.text)) }
+        ensures answer { OnOk result (AddsAnswer self.old.offers.items self.old.limits.items share (string_bytes self.old.text) (string_bytes self.new.text)) }
+        ensures units { (self.new.limits.items ≡ self.old.limits.items) × (self.new.offers.items ≡ self.old.offers.items) }
+        ensures begun { self.new.shares_begun ≡ true }
     {
         self.shares_begun = true;
         let answer = answer_text(heap, self.offers.as_slice(), self.limits.as_slice(), share)?;
@@ -100,7 +109,10 @@ pub(crate) fn run(heap: Global, text: &str) -> Result<String, AllocError> {
 }
 
 /// What a program answers to the bytes of its input.
-pub(crate) fn answer(heap: Global, input: &[u8]) -> Result<String, AllocError> {
+pub(crate) fn answer(heap: Global, input: &[u8]) -> Result<String, AllocError>
+    ensures long { 1048576 < length input.now → IfOk result (λ t. string_bytes t ≡ codes "the input is over 1048576 bytes\n") }
+    ensures no_text { length input.now ≤ 1048576 → ¬ (IsUtf8 input.now) → IfOk result (λ t. string_bytes t ≡ codes "the input is no UTF-8 text\n") }
+{
     if input.len() as u64 > MAX_INPUT {
         return format!(in heap; "the input is over {MAX_INPUT} bytes\n");
     }
@@ -108,4 +120,11 @@ pub(crate) fn answer(heap: Global, input: &[u8]) -> Result<String, AllocError> {
         Ok(text) => run(heap, text),
         Err(_) => String::from_str(heap, "the input is no UTF-8 text\n"),
     }
+}
+
+/// What a program answers to what it reads. No more is read than shows that the input is too long.
+pub(crate) fn answer_read<R: Read + Drop>(heap: Global, input: R) -> io::Result<String> {
+    let mut bytes = Vec::new(heap);
+    input.take(MAX_INPUT + 1).read_to_end(&mut bytes)?;
+    Ok(answer(heap, bytes.as_slice())?)
 }

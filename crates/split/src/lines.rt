@@ -1,8 +1,9 @@
 // Reads the lines of a job.
-ghost use Rattle.std.specs.Prelude.{◌≡◌, ◌^◌, ◌<◌, map, IfOk, slice_index_or};
+ghost use Rattle.std.specs.Prelude.{◌≡◌, ◌^◌, ◌<◌, map, IfOk, IfErr, slice_index_or};
 ghost use Rattle.std.specs.Result.{OkIff};
 ghost use Rattle.std.specs.Str.Parse.{IsNumeral, digits_value};
-ghost use Rattle.split.specs.Lines.{KeywordRead, numbers_of, share_read, UnitRead};
+ghost use Rattle.split.specs.declared.faults.Fault.TheVariants.{NoNumber};
+ghost use Rattle.split.specs.Lines.{KeywordRead, numbers_of, share_read, UnitRead, StepsRefused, UnitRefused};
 
 use crate::faults::Fault;
 use curves::{Step, SteppedOffer};
@@ -69,7 +70,8 @@ fn numbers_of(heap: Global, words: &[&str]) -> Result<Vec<u32>, Fault>
 
 // The number that decimal digits write, up to the highest of 32 bits.
 fn number_of(word: &str) -> Result<u32, Fault>
-    ensures { OkIff result (IsNumeral 10 word.now × (digits_value 10 word.now < 2 ^ 32)) (digits_value 10 word.now) }
+    ensures value { OkIff result (IsNumeral 10 word.now × (digits_value 10 word.now < 2 ^ 32)) (digits_value 10 word.now) }
+    ensures refused { IfErr result (λ fault. fault ≡ NoNumber) }
 {
     if word.starts_with('+') {
         return Err(Fault::NoNumber);
@@ -88,7 +90,8 @@ fn share_line(numbers: &[u32]) -> Result<Line, Fault>
 }
 
 fn unit_line(heap: Global, numbers: &[u32]) -> Result<Line, Fault>
-    ensures { IfOk result (UnitRead numbers.now) }
+    ensures read { IfOk result (UnitRead numbers.now) }
+    ensures refused { IfErr result (UnitRefused numbers.now) }
 {
     let [limit, rest @ ..] = numbers else {
         return Err(Fault::MissingNumber);
@@ -103,7 +106,8 @@ fn unit_line(heap: Global, numbers: &[u32]) -> Result<Line, Fault>
 
 // The steps of widths and prices in turn.
 fn steps_of(heap: Global, numbers: &[u32]) -> Result<Vec<Step>, Fault>
-    ensures { IfOk result (λ v. numbers_of v.items ≡ numbers.now) }
+    ensures read { IfOk result (λ v. numbers_of v.items ≡ numbers.now) }
+    ensures refused { IfErr result (StepsRefused numbers.now) }
 {
     let (pairs, []) = numbers.as_chunks::<2>() else {
         return Err(Fault::WidthAlone);

@@ -11,11 +11,8 @@ mod report;
 mod tests;
 
 use std::io;
-use std::io::Read;
 
 fn main(rt: HostRuntime) -> io::Result<()> {
-    let mut input = Vec::new(rt.alloc());
-    rt.stdin().take(job::MAX_INPUT + 1).read_to_end(&mut input)?;
-    let answer = job::answer(rt.alloc(), input.as_slice())?;
+    let answer = job::answer_read(rt.alloc(), rt.stdin())?;
     rt.print(answer)
 }

@@ -3,8 +3,8 @@ use Rattle.split.specs.Lines.{numbers_of}
 use Rattle.split.proofs.Numbers.{paired}
 use Rattle.split.proofs.lines.steps_of.Goals as goal
 
-pub returns : goal.returns
-returns c =
+pub returns-clause-read : goal.returns-clause-read
+returns-clause-read c =
     let numbers = c.args.numbers.now in
     let none : length numbers % 2 ≡ 0 = omega (arith, c.as_chunks.ensures.back_len) in
     let whole : length numbers ≡ length numbers / 2 * 2 = omega (arith, none) in

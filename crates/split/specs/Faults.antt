@@ -1,0 +1,8 @@
+-- Faults that a caller can't see coming.
+use Rattle.split.specs.declared.faults.Fault.{Fault}
+use Rattle.split.specs.declared.faults.Fault.TheVariants.{Memory}
+
+-- no memory is left
+abbrev pub IsMemory : Fault → Type 0
+IsMemory (Memory e) = Unit {0}
+IsMemory other = ⊥
