@@ -1,27 +1,22 @@
 -- The amounts of the worked hours are in merit order. Whether some are is found by computing: each unit's price never falls
 -- within its limit, and the last kWh that one unit gets comes before the first that another doesn't.
-use Rattle.std.proofs.Common.{◌≡◌, ℕ, zero, suc, ◌+◌, ◌-◌, ◌<◌, ◌≤◌, min, Bool, true, cond, ◌&&◌, ◌||◌, leb, ltb, eqb, List, [], ◌∷◌, length, refl, sym, ap, subst, ◌∙◌, inl, inr, ⊎_elim, arith}
-use Rattle.std.proofs.lemmas.Bool.{cases_lt, and_parts, and_from, and_left, or_cases, leb-true, ltb-true, eqb-true, le-leb, lt-ltb, le-ltb, cond-true, cond-false}
+use Rattle.std.proofs.Common.{◌≡◌, ℕ, zero, suc, ◌<◌, ◌≤◌, min, Bool, true, cond, ◌&&◌, ◌||◌, leb, ltb, eqb, List, refl, sym, ap, subst, ◌∙◌, inl, inr, ⊎_elim, arith}
+use Rattle.std.proofs.lemmas.Bool.{cases_lt, and_parts, and_from, or_cases, leb-true, ltb-true, eqb-true, le-leb, lt-ltb, le-ltb, cond-true}
 use Rattle.allocation.proofs.Orders.{split_of}
 use Rattle.allocation.specs.Groups.{Group, sum_of, total}
 use Rattle.allocation.specs.Laws.{Split, uncovered}
 use Rattle.allocation.specs.Merit.{Before, MeritOrder}
-use Rattle.curves.specs.Steps.{step_price}
-use Rattle.curves.specs.declared.steps.Step.{Step}
 use Rattle.settlement.specs.Shares.{running_share}
-use Rattle.table.specs.ClosingLaw.{PlantLawOf, group_in, share_one_in, share_two_in, amount_in}
-use Rattle.table.specs.History.{units_in, unit_in, sold_in}
-use Rattle.table.specs.Places.{unit_at, plant_at}
+use Rattle.table.specs.ClosingLaw.{amount_in}
+use Rattle.table.specs.History.{units_in}
 use Rattle.table.specs.Rows.{UnitTable}
-use Rattle.table.specs.declared.records.PlantFigures.{PlantFigures}
-use Rattle.table.specs.declared.records.Table.{Table}
 use Rattle.table.specs.declared.entries.Entry.{Entry}
 use Rattle.book.specs.Law.{entered}
 use Rattle.worked_hour.specs.Edges as edges
 use Rattle.worked_hour.specs.Examples as worked
 use Rattle.worked_hour.specs.Examples.{step}
 use Rattle.worked_hour.specs.Hour as fuller
-use Rattle.worked_hour.specs.Merits.{MeritExamples, closed, offers_of, entries, offers, tariffs, found}
+use Rattle.worked_hour.specs.Merits.{MeritExamples, closed, entries, found}
 use Rattle.worked_hour.specs.Sample as sample
 
 -- the first n numbers pass
