@@ -8,7 +8,7 @@ use anyhow::{Context, Result, ensure};
 use book::Book;
 use comparing::Tally;
 use hourfile::{Cause, FileFault};
-use listing::{ListError, list_hour, printed};
+use listing::{list_hour, printed};
 use std::alloc::{AllocError, Global};
 use std::fs;
 
@@ -22,35 +22,41 @@ fn contents(rt: &HostRuntime, name: &str) -> Result<Vec<u8>> {
     fs::read(rt, name).context(format_args!("reading {name}"))
 }
 
-// Whether a buffer of so many bytes, too few for the file's listing, is refused and stays as it was.
+// Whether a buffer of so many bytes is refused for a file's listing and stays as it was.
 fn refuses_buffer(heap: Global, file: &[u8], bytes: usize) -> Result<bool, AllocError> {
     let mut book = Book::new();
     let mut out = vec![in heap; UNUSED; bytes]?;
-    let listed = list_hour(heap, &mut book, file, out.as_mut_slice());
-    let Err(ListError::Fault(fault)) = listed.end else {
-        return Ok(false);
-    };
+    let listed = list_hour(&mut book, file, out.as_mut_slice());
     let short = FileFault {
         cause: Cause::ShortBuffer,
         place: u32::try_from(file.len()).unwrap_or(u32::MAX),
     };
-    Ok(fault == short && out.iter().all(|byte| *byte == UNUSED))
+    Ok(listed.end == Err(short) && out.iter().all(|byte| *byte == UNUSED))
 }
 
-// Whether a buffer with one byte more than a file's listing gets the listing, and keeps that byte.
-fn fills_buffer(heap: Global, file: &[u8], want: &[u8]) -> Result<bool, AllocError> {
+// Whether a buffer of so many bytes gets a file's listing and keeps the bytes behind it.
+fn fills_buffer(heap: Global, file: &[u8], want: &[u8], bytes: usize) -> Result<bool, AllocError> {
     let mut book = Book::new();
-    let mut out = vec![in heap; UNUSED; want.len() + 1]?;
-    let listed = list_hour(heap, &mut book, file, out.as_mut_slice());
+    let mut out = vec![in heap; UNUSED; bytes]?;
+    let listed = list_hour(&mut book, file, out.as_mut_slice());
     Ok(
         listed.end == Ok(want.len())
             && out.as_slice().starts_with(want)
-            && out.last() == Some(&UNUSED),
+            && out.iter().skip(want.len()).all(|byte| *byte == UNUSED),
     )
 }
 
-// Whether the text stored for a case is what is printed for its file. A listing is also tried with a buffer that has room
-// and with one that is too short by one.
+// Whether a buffer gets a file's listing if it is as long or one byte longer, and none if it is one byte shorter.
+fn fits_exactly(heap: Global, file: &[u8], want: &[u8]) -> Result<bool, AllocError> {
+    let length = want.len();
+    Ok(
+        fills_buffer(heap, file, want, length)?
+            && fills_buffer(heap, file, want, length + 1)?
+            && refuses_buffer(heap, file, length.saturating_sub(1))?,
+    )
+}
+
+// Whether the text stored for a case is what is printed for its file. A listing is also written to buffers.
 fn is_same(heap: Global, file: &[u8], want: &[u8]) -> Result<bool, AllocError> {
     let text = printed(heap, file)?;
     if text.as_bytes() != want {
@@ -59,7 +65,7 @@ fn is_same(heap: Global, file: &[u8], want: &[u8]) -> Result<bool, AllocError> {
     match want {
         [] => Ok(false),
         [b'R', ..] => Ok(true),
-        _ => Ok(fills_buffer(heap, file, want)? && refuses_buffer(heap, file, want.len() - 1)?),
+        _ => fits_exactly(heap, file, want),
     }
 }
 

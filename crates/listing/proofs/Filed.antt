@@ -13,8 +13,6 @@ use Rattle.reader.specs.declared.reached.FileHour.{FileHour}
 use Rattle.reader.specs.declared.reached.Reached.{Reached}
 use Rattle.reader.specs.declared.reached.Reached.TheVariants.{Unopened, Open, Closed, Settled}
 use Rattle.listing.specs.Files.{EndsAs, ReachedListed, HourListed}
-use Rattle.listing.specs.declared.errors.ListError.{ListError}
-use Rattle.listing.specs.declared.errors.ListError.TheVariants.{Fault}
 
 -- the fault of an end
 pub no_fault : (o : Option FileFault) (x : Unit) → end_of o ≡ Ok x → o ≡ None
@@ -30,14 +28,14 @@ a_fault (Some f) fault is = ap fault_of is
     fault_of (Err e) = Some e
 
 -- a settled hour is the one that is listed
-settled_listed : (m : Made) (book : Table) (reached : Reached) (place : ℕ) (before after : List ℕ) (end : Result ℕ ListError) → BookHolds book (Done m) reached → ReachedListed reached place before end after → EndsAs None reached place before end after
+settled_listed : (m : Made) (book : Table) (reached : Reached) (place : ℕ) (before after : List ℕ) (end : Result ℕ FileFault) → BookHolds book (Done m) reached → ReachedListed reached place before end after → EndsAs None reached place before end after
 settled_listed m book (Unopened b) place before after end is listed = absurd is
 settled_listed m book (Open hour) place before after end is listed = absurd is
 settled_listed m book (Closed hour) place before after end is listed = absurd is
 settled_listed m book (Settled hour) place before after end is listed = listed
 
-module _ (book : Table) (file before : List ℕ) (read : FileHour) (so : FileRead book (outcome file) read) (end : Result ℕ ListError) (after : List ℕ) where
-  pub fault_listed : (fault : FileFault) → read.end ≡ Err fault → end ≡ Err (Fault fault) → after ≡ before → HourListed book file before (record { reached = read.reached; end = end }) after
+module _ (book : Table) (file before : List ℕ) (read : FileHour) (so : FileRead book (outcome file) read) (end : Result ℕ FileFault) (after : List ℕ) where
+  pub fault_listed : (fault : FileFault) → read.end ≡ Err fault → end ≡ Err fault → after ≡ before → HourListed book file before (record { reached = read.reached; end = end }) after
   fault_listed fault is same stays =
       let found = a_fault (outcome file).fault fault (sym so.end ∙ is) in
       record {

@@ -1,4 +1,5 @@
 pub mod Rows
 pub mod Listing
+pub mod Rooms
 pub mod Files
 pub mod Printed

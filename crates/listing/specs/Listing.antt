@@ -1,11 +1,11 @@
 -- The listing of a settled hour.
-use Rattle.std.specs.Prelude.{◌≡◌, ℕ, ◌<◌, ◌≤◌, min, List, [], ◌++◌, length, drop, codes, Option, Some, None, Ok, Err, Result}
+use Rattle.std.specs.Prelude.{◌≡◌, ℕ, ◌<◌, ◌≤◌, min, List, [], ◌++◌, length, drop, codes, Option, Some, None, Ok, Err, Result, IsErr, ◌↔◌}
 use Rattle.std.specs.List.{flat_map, range_with_len}
 use Rattle.table.specs.Texts.{hour_text}
+use Rattle.table.specs.declared.records.HourFigures.{HourFigures}
 use Rattle.table.specs.declared.records.Table.{Table}
 use Rattle.listing.specs.Rows.{row_text, row_in}
-use Rattle.listing.specs.declared.errors.ListingError.{ListingError}
-use Rattle.listing.specs.declared.errors.ListingError.TheVariants.{ShortBuffer, Memory}
+use Rattle.listing.specs.declared.errors.ShortBuffer.{ShortBuffer}
 use Rattle.listing.specs.declared.rows.Kind.{Kind}
 use Rattle.listing.specs.declared.rows.Kind.TheVariants.{Competitive, Guaranteed, Plants, Buyers}
 use Rattle.listing.specs.declared.rows.Row.{Row}
@@ -26,14 +26,22 @@ line_of (Some row) = row_text row ++ codes "\n"
 abbrev pub lines_of : Kind → Table → List ℕ
 lines_of kind t = flat_map (λ number. line_of (row_in kind number t)) (range_with_len 1 (count_of kind t))
 
+-- H and the hour's figures
+abbrev pub hour_line : HourFigures → List ℕ
+hour_line figures = codes "H " ++ (hour_text figures ++ codes "\n")
+
 -- competitive units, guaranteed units, plants, buyers, and the hour
 abbrev pub listing_of : Table → List ℕ
 listing_of t =
     lines_of Competitive t ++ (lines_of Guaranteed t ++ (lines_of Plants t ++ (lines_of Buyers t ++
-    (codes "H " ++ (hour_text t.figures ++ codes "\n")))))
+    hour_line t.figures)))
 
 -- the text stands at the buffer's start and the rest is as it was; or nothing is written
-abbrev pub ListingWritten : List ℕ → List ℕ → Result ℕ ListingError → List ℕ → Type 0
+abbrev pub ListingWritten : List ℕ → List ℕ → Result ℕ ShortBuffer → List ℕ → Type 0
 ListingWritten text before (Ok n) after = (n ≡ length text) × ((n ≤ length before) × (after ≡ text ++ drop n before))
-ListingWritten text before (Err ShortBuffer) after = (length before < length text) × (after ≡ before)
-ListingWritten text before (Err Memory) after = after ≡ before
+ListingWritten text before (Err e) after = (length before < length text) × (after ≡ before)
+
+-- The answer is the listing's length or 13, and 13 comes exactly where the buffer is shorter than the listing.
+pub record ShortExactly (text before : List ℕ) (result : Result ℕ ShortBuffer) : Type 0 where
+  pub fits : length text ≤ length before → result ≡ Ok (length text)
+  pub short : length before < length text ↔ IsErr result

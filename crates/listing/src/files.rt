@@ -2,15 +2,14 @@
 ghost use Rattle.std.specs.Prelude.{◌≡◌, min, length};
 ghost use Rattle.listing.specs.Printed.{OneListing};
 ghost use Rattle.reader.specs.Outcome.{outcome};
-ghost use Rattle.listing.specs.Files.{HourListed, ReachedListed, ended, list_end};
+ghost use Rattle.listing.specs.Files.{HourListed, ReachedListed, FileEndsExactly, ended, list_end};
 
-use crate::errors::{ListError, ListingError};
+use crate::errors::ShortBuffer;
 use crate::listed::Listed;
 use crate::text::write_listing;
 use book::Book;
 use hourfile::{Cause, FileFault, MOST_BYTES};
 use reader::{FileHour, Reached, read_hour};
-use std::alloc::Global;
 
 // The length of a file, as a place; a file that is too long counts as the longest.
 pub(crate) fn length_of(file: &[u8]) -> u32
@@ -30,45 +29,38 @@ pub(crate) fn ended(place: u32) -> FileFault
 }
 
 // The end of a listing whose file has so many bytes.
-fn list_end(end: Result<usize, ListingError>, place: u32) -> Result<usize, ListError>
+fn list_end(end: Result<usize, ShortBuffer>, place: u32) -> Result<usize, FileFault>
     ensures { result ≡ list_end end place }
 {
     match end {
         Ok(length) => Ok(length),
-        Err(ListingError::Memory) => Err(ListError::Memory),
-        Err(ListingError::ShortBuffer) => Err(ListError::Fault(FileFault {
+        Err(ShortBuffer) => Err(FileFault {
             cause: Cause::ShortBuffer,
             place,
-        })),
+        }),
     }
 }
 
 // Lists the hour that a file of so many bytes led to, if it is settled.
-fn list_reached(
-    heap: Global,
-    reached: &Reached,
-    place: u32,
-    out: &mut [u8],
-) -> Result<usize, ListError>
+fn list_reached(reached: &Reached, place: u32, out: &mut [u8]) -> Result<usize, FileFault>
     ensures { ReachedListed reached.now place out.old result out.new }
 {
     match reached {
-        Reached::Settled(hour) => list_end(write_listing(heap, hour, out), place),
-        Reached::Unopened(_) | Reached::Open(_) | Reached::Closed(_) => {
-            Err(ListError::Fault(ended(place)))
-        }
+        Reached::Settled(hour) => list_end(write_listing(hour, out), place),
+        Reached::Unopened(_) | Reached::Open(_) | Reached::Closed(_) => Err(ended(place)),
     }
 }
 
 /// Reads a file into a book and writes the listing of its hour at a buffer's start. At a fault the buffer stays as it was.
-pub fn list_hour<'b>(heap: Global, book: &'b mut Book, file: &[u8], out: &mut [u8]) -> Listed<'b>
+pub fn list_hour<'b>(book: &'b mut Book, file: &[u8], out: &mut [u8]) -> Listed<'b>
     ensures listed { HourListed book.old.table file.now out.old result out.new }
+    ensures exactly { FileEndsExactly (outcome file.now).fault result.reached (length file.now) out.old result.end }
     ensures one { OneListing (outcome file.now).progress }
 {
     let FileHour { reached, end } = read_hour(book, file);
     let end = match end {
-        Ok(()) => list_reached(heap, &reached, length_of(file), out),
-        Err(fault) => Err(ListError::Fault(fault)),
+        Ok(()) => list_reached(&reached, length_of(file), out),
+        Err(fault) => Err(fault),
     };
     Listed { reached, end }
 }

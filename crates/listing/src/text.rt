@@ -1,27 +1,44 @@
 // The text of a settled hour.
-ghost use Rattle.std.specs.Prelude.{◌≡◌, ◌++◌, IfOk};
+ghost use Rattle.std.specs.Prelude.{◌≡◌, ◌+◌, ◌≤◌, [], ◌++◌, length, IfOk, OnOk};
 ghost use Rattle.std.specs.String.{string_bytes};
-ghost use Rattle.listing.specs.Listing.{lines_of, listing_of, ListingWritten};
+ghost use Rattle.listing.specs.Listing.{lines_of, listing_of, ListingWritten, ShortExactly};
+ghost use Rattle.listing.specs.Rooms.{rows_room};
 
-use crate::errors::ListingError;
+use crate::errors::ShortBuffer;
+use crate::line::push_hour;
 use crate::rows::{Kind, Row};
+use crate::sink::{Sink, Text};
 use book::SettledHour;
 use std::alloc::{AllocError, Global};
 
 // The most rows of a kind.
-const MOST_ROWS: u32 = 128;
+const MOST_ROWS: u8 = 128;
 
-// Writes the rows of a kind behind a text.
-fn write_rows(text: &mut String, hour: &SettledHour, kind: Kind) -> Result<(), AllocError>
-    ensures { IfOk result (λ _. string_bytes text.new ≡ string_bytes text.old ++ lines_of kind hour.now.book.now.table) }
+// Writes the rows of a kind.
+fn write_rows<S: Sink>(text: &mut S, hour: &SettledHour, kind: Kind) -> Result<(), S::Error>
+    requires room { length (S.bytes text.old) + rows_room kind ≤ 19745 }
+    ensures rows { OnOk result (S.bytes text.new ≡ S.bytes text.old ++ lines_of kind hour.now.book.now.table) }
+    ensures room { OnOk result (length (S.bytes text.new) ≤ length (S.bytes text.old) + rows_room kind) }
 {
     for number in 1..=MOST_ROWS {
         let Some(row) = Row::of(hour, kind, number) else {
             return Ok(());
         };
-        writeln!(text, "{row}")?;
+        row.write(text)?;
     }
     Ok(())
+}
+
+// Writes the listing into an empty text.
+fn write_hour<S: Sink>(text: &mut S, hour: &SettledHour) -> Result<(), S::Error>
+    requires empty { S.bytes text.old ≡ [] }
+    ensures { OnOk result (S.bytes text.new ≡ listing_of hour.now.book.now.table) }
+{
+    write_rows(text, hour, Kind::Competitive)?;
+    write_rows(text, hour, Kind::Guaranteed)?;
+    write_rows(text, hour, Kind::Plants)?;
+    write_rows(text, hour, Kind::Buyers)?;
+    push_hour(text, hour.hour())
 }
 
 /// The listing of a settled hour.
@@ -29,27 +46,22 @@ pub fn listing(heap: Global, hour: &SettledHour) -> Result<String, AllocError>
     ensures { IfOk result (λ text. string_bytes text ≡ listing_of hour.now.book.now.table) }
 {
     let mut text = String::new(heap);
-    write_rows(&mut text, hour, Kind::Competitive)?;
-    write_rows(&mut text, hour, Kind::Guaranteed)?;
-    write_rows(&mut text, hour, Kind::Plants)?;
-    write_rows(&mut text, hour, Kind::Buyers)?;
-    writeln!(text, "H {}", hour.hour())?;
+    write_hour(&mut text, hour)?;
     Ok(text)
 }
 
 /// Writes the listing of a settled hour at a buffer's start, and answers its length. A buffer that is too short stays as it
-/// was, and so does one where memory runs out.
-pub fn write_listing(
-    heap: Global,
-    hour: &SettledHour,
-    out: &mut [u8],
-) -> Result<usize, ListingError>
-    ensures { ListingWritten (listing_of hour.now.book.now.table) out.old result out.new }
+/// was.
+pub fn write_listing(hour: &SettledHour, out: &mut [u8]) -> Result<usize, ShortBuffer>
+    ensures written { ListingWritten (listing_of hour.now.book.now.table) out.old result out.new }
+    ensures exactly { ShortExactly (listing_of hour.now.book.now.table) out.old result }
+    ensures longest { length (listing_of hour.now.book.now.table) ≤ 19745 }
 {
-    let text = listing(heap, hour)?;
+    let mut text = Text::new();
+    let Ok(()) = write_hour(&mut text, hour);
     let bytes = text.as_bytes();
     if out.len() < bytes.len() {
-        return Err(ListingError::ShortBuffer);
+        return Err(ShortBuffer);
     }
     out[..bytes.len()].copy_from_slice(bytes);
     Ok(bytes.len())

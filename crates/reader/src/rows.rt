@@ -38,10 +38,11 @@ impl UnitRows {
         &self.rows[..self.count]
     }
 
-    /// Keeps one row more, if there is room for it.
+    /// Keeps one row more. Where 128 are kept there is no room for it, and nothing changes.
     pub(crate) fn add(&mut self, row: UnitRow)
         ensures rows { self.old.count < 128 → rows_of self.new ≡ rows_of self.old ++ (row ∷ []) }
         ensures count { self.old.count < 128 → self.new.count ≡ self.old.count + 1 }
+        ensures full { 128 ≤ self.old.count → self.new ≡ self.old }
     {
         if self.count < UNITS {
             self.rows[self.count] = row;

@@ -1,6 +1,8 @@
-use Rattle.std.proofs.Common.{sym, subst}
+use Rattle.std.proofs.Common.{length, sym, subst}
 use Rattle.reader.specs.Outcome.{outcome}
 use Rattle.listing.proofs.Filed.{fault_listed, hour_listed}
+use Rattle.listing.proofs.Exactly.{ends_exactly}
+use Rattle.listing.proofs.Never.{never_short}
 use Rattle.listing.proofs.Unique.{one_listing}
 use Rattle.listing.specs.Files.{ReachedListed}
 use Rattle.listing.proofs.files.list_hour.Goals as goal
@@ -23,3 +25,8 @@ returns-clause-listed c =
 
 pub returns-clause-one : goal.returns-clause-one
 returns-clause-one c = one_listing (outcome c.args.file.now).progress
+
+pub returns-clause-exactly : goal.returns-clause-exactly
+returns-clause-exactly c =
+    let file = c.args.file.now in
+    ends_exactly (outcome file).fault c.read_hour-reached.result.reached (length file) c.args.out.now c.match-end.out c.match-end.end (never_short file) (returns-clause-listed c).end
