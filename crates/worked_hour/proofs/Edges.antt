@@ -44,6 +44,7 @@ edge_examples = record {
   bills = refl;
   carried_bills = refl;
   limits = refl;
+  weights = refl;
   most_saved = saved;
   limits_one = refl;
   limits_two = refl;

@@ -7,6 +7,7 @@ use Rattle.curves.specs.declared.refusals.CurveRefusal.TheVariants.{Steps, Price
 use Rattle.curves.specs.declared.steps.Step.{Step}
 use Rattle.settlement.specs.Payments.{guaranteed_payment}
 use Rattle.settlement.specs.Reference.{net_of, bill_of}
+use Rattle.settlement.specs.Shares.{weight_of}
 use Rattle.settling.specs.Derived.{Found, ledger_in}
 use Rattle.settling.specs.Figures.{Pay, pay_by, unit_figures, plant_figures, hour_figures}
 use Rattle.settling.specs.Headers.{checked}
@@ -154,6 +155,7 @@ pub record EdgeExamples : Type 0 where
   pub bills : map (bill_of 0) (0 ∷ 1999999 ∷ 2000000 ∷ 2000001 ∷ []) ≡ 0 ∷ 1999999 ∷ 2000000 ∷ 2000000 ∷ []
   pub carried_bills : bill_of 1 2000000 ∷ bill_of 200 2000001 ∷ bill_of 2000 2000000 ∷ bill_of 2001 4000000000 ∷ [] ≡ 1999800 ∷ 1960000 ∷ 1600000 ∷ 1600000 ∷ []
   pub limits : net_of 0 0 2000000 ∷ net_of 2000 2000 2000000 ∷ net_of 2001 2500 2000000 ∷ [] ≡ 2000000 ∷ 1280000 ∷ 1280000 ∷ []
+  pub weights : weight_of 2000 10000 ∷ weight_of 2001 10000 ∷ weight_of 1999 10000 ∷ weight_of 2000 50000000 ∷ [] ≡ 12000 ∷ 12000 ∷ 11999 ∷ 60000000 ∷ []
   pub most_saved : guaranteed_payment 2000001 (λ k. 3) 1 30 ≡ 66000000
   -- units without a row have no limit, count in no share and are paid nothing, though they are billed
   pub limits_one : map (λ i. (group_in 1 step_price (offer ∷ []) 1 (entered entries)).limit i) (0 ∷ []) ≡ 40 ∷ []

@@ -9,6 +9,7 @@ pub mod Numbers
 pub mod Readings
 pub mod Fractions
 pub mod Edges
+pub mod Largest
 pub mod Rooms
 pub mod Spelled
 pub mod Sample

@@ -5,10 +5,11 @@ ghost use Rattle.worked_hour.specs.Examples.{WorkedExamples};
 ghost use Rattle.worked_hour.specs.File.{FileExamples};
 ghost use Rattle.worked_hour.specs.Fractions.{FractionExamples};
 ghost use Rattle.worked_hour.specs.Hour.{FullerHour};
+ghost use Rattle.worked_hour.specs.Largest.{LargestHour};
+ghost use Rattle.worked_hour.specs.Merits.{MeritExamples};
 ghost use Rattle.worked_hour.specs.Numbers.{NumberExamples};
 ghost use Rattle.worked_hour.specs.Orders.{OrderExamples};
 ghost use Rattle.worked_hour.specs.Readings.{ReadingExamples};
-ghost use Rattle.worked_hour.specs.Merits.{MeritExamples};
 ghost use Rattle.worked_hour.specs.Refused.{RefusalTable};
 ghost use Rattle.worked_hour.specs.Rooms.{FullTables};
 ghost use Rattle.worked_hour.specs.Sample.{SampleHour};
@@ -31,5 +32,6 @@ pub(crate) fn worked_examples()
     ensures rooms { FullTables }
     ensures texts { RefusalTexts }
     ensures sample { SampleHour }
+    ensures largest { LargestHour }
     ensures merits { MeritExamples }
 {}

@@ -4,6 +4,7 @@ use Rattle.worked_hour.proofs.Numbers.{number_examples}
 use Rattle.worked_hour.proofs.Orders.{order_examples}
 use Rattle.worked_hour.proofs.Readings.{reading_examples}
 use Rattle.worked_hour.proofs.Edges.{edge_examples}
+use Rattle.worked_hour.proofs.Largest.{largest_hour}
 use Rattle.worked_hour.proofs.Merits.{merit_examples}
 use Rattle.worked_hour.proofs.Rooms.{full_tables}
 use Rattle.worked_hour.proofs.Sample.{sample_hour}
@@ -51,6 +52,9 @@ returns-clause-texts c = refusal_texts
 
 pub returns-clause-sample : goal.returns-clause-sample
 returns-clause-sample c = sample_hour
+
+pub returns-clause-largest : goal.returns-clause-largest
+returns-clause-largest c = largest_hour
 
 pub returns-clause-merits : goal.returns-clause-merits
 returns-clause-merits c = merit_examples
