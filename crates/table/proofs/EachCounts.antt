@@ -1,21 +1,29 @@
 -- Which accepted entry counts: those that come later leave what they don't name.
-use Rattle.std.proofs.Common.{◌≡◌, ℕ, ◌+◌, ◌<◌, ◌≤◌, true, false, cond, ◌&&◌, eqb, List, [], ◌∷◌, ◌++◌, length, get_or, Some, None, sym, refl, ap, ◌∙◌, subst, ⊎_elim, arith, length-append, append-nil, append_assoc}
+use Rattle.std.proofs.Common.{◌≡◌, ℕ, ◌+◌, ◌<◌, ◌≤◌, Bool, true, false, cond, ◌&&◌, eqb, List, [], ◌∷◌, ◌++◌, length, get_or, Some, None, sym, refl, ap, ◌∙◌, subst, ⊎_elim, arith, length-append, append-nil, append_assoc}
 use Rattle.std.proofs.Math.Seq.{get_or-append_seam}
 use Rattle.std.proofs.lemmas.List.{get_or_append_left}
 use Rattle.std.proofs.lemmas.Bool.{cases_eq, eq-eqb, ne_eqb, cond-true, cond-false, and_from, and_left, and_right, true≢false}
 use Rattle.std.proofs.lemmas.List.Sums.{sum_by-cons}
 use Rattle.std.specs.List.{count_by}
 use Rattle.table.proofs.Accepted.{accepted_proper}
-use Rattle.table.proofs.Sold.{sold_push}
 use Rattle.table.proofs.Standing.{no_row, there}
 use Rattle.table.specs.EntriesCount.{NoneOf, adds_a_plant, adds_a_unit, adds_a_buyer, commits, Corrects, Moves, AddedUnit, LastCounts, Numbered, EachSold, EntriesCount}
-use Rattle.table.specs.Entries.{lacks, lacks_unit}
+use Rattle.table.specs.Entries.{lacks, lacks_unit, sold_by}
 use Rattle.table.specs.History.{adds_plant, adds_unit, adds_buyer, plants_in, units_in, buyers_in, commitments_of, sold_in, loss_in, buyer_loss_in, unit_in, view_in, accepted, Proper}
 use Rattle.table.specs.Rows.{new_unit, corrected, moved}
 use Rattle.table.specs.declared.entries.Entry.{Entry}
 use Rattle.table.specs.declared.entries.Entry.TheVariants.{AddPlant, AddCompetitive, AddGuaranteed, Correct, PutAside, TakeBack, AddBuyer, Commit}
 use Rattle.table.specs.declared.records.Commitment.{Commitment}
 use Rattle.table.specs.declared.records.UnitRecord.{UnitRecord}
+
+-- what no later entry changes stays, and a count only grows
+all_leave : {X : Type 0} (see : List Entry → X) (base : List Entry) → ((e : Entry) (l : List Entry) → see (e ∷ (l ++ base)) ≡ see (l ++ base)) → (later : List Entry) → see (later ++ base) ≡ see base
+all_leave see base leaves [] = refl
+all_leave see base leaves (e ∷ later) = leaves e later ∙ all_leave see base leaves later
+
+all_grow : (count : List Entry → ℕ) (base : List Entry) → ((e : Entry) (h : List Entry) → count h ≤ count (e ∷ h)) → (later : List Entry) → count base ≤ count (later ++ base)
+all_grow count base grows [] = omega arith
+all_grow count base grows (e ∷ later) = omega (arith, grows e (later ++ base), all_grow count base grows later)
 
 -- what is seen of a unit stays while no entry is of a kind
 module _ {Y : Type 0} (see : UnitRecord → Y) (kind : Entry → Type 0) (g n : ℕ) (corrects : (group unit d : ℕ) → (kind (Correct group unit d) → ⊥) → group ≡ g → unit ≡ n → (u : UnitRecord) → see (corrected d u) ≡ see u) (puts : (group unit : ℕ) → (kind (PutAside group unit) → ⊥) → group ≡ g → unit ≡ n → (u : UnitRecord) → see (moved true u) ≡ see u) (takes : (group unit : ℕ) → (kind (TakeBack group unit) → ⊥) → group ≡ g → unit ≡ n → (u : UnitRecord) → see (moved false u) ≡ see u) where
@@ -51,14 +59,10 @@ module _ {Y : Type 0} (see : UnitRecord → Y) (kind : Entry → Type 0) (g n : 
   one_later (AddBuyer loss) h le unlike = refl
   one_later (Commit plant buyer volume) h le unlike = refl
 
-  units_grow : (later before : List Entry) → units_in g before ≤ units_in g (later ++ before)
-  units_grow [] before = omega arith
-  units_grow (e ∷ later) before = omega (arith, units_grow later before)
-
   pub all_later : (later before : List Entry) → n ≤ units_in g before → NoneOf kind later → see (unit_in g n (later ++ before)) ≡ see (unit_in g n before)
   all_later [] before le none = refl
   all_later (e ∷ later) before le none =
-      one_later e (later ++ before) (omega (arith, units_grow later before)) none.0 ∙ all_later later before le none.1
+      one_later e (later ++ before) (omega (arith, all_grow (units_in g) before (λ x h. omega arith) later)) none.0 ∙ all_later later before le none.1
 
 -- a part of a proper history
 proper_before : (later before : List Entry) → Proper (later ++ before) → Proper before
@@ -129,49 +133,6 @@ added_unit g n new later base le first stands = record {
     always see corrects puts takes =
         all_later see (λ e. ⊥) g n (λ group unit d unlike here own u. corrects d u) (λ group unit unlike here own u. puts u) (λ group unit unlike here own u. takes u) later base le (never later) ∙ ap see first
 
--- how many there are, whatever came later
-pub plants_counted : (h : List Entry) → plants_in h ≡ count_by adds_a_plant h
-plants_counted [] = refl
-plants_counted (e ∷ h) = omega (arith, plants_counted h, one e, sum_by-cons (λ x. cond (adds_a_plant x) 1 0) e h)
-  where
-    one : (x : Entry) → adds_plant x ≡ cond (adds_a_plant x) 1 0
-    one (AddPlant loss) = refl
-    one (AddCompetitive plant declared internal) = refl
-    one (AddGuaranteed plant declared seasonal internal feeds) = refl
-    one (Correct group unit declared) = refl
-    one (PutAside group unit) = refl
-    one (TakeBack group unit) = refl
-    one (AddBuyer loss) = refl
-    one (Commit plant buyer volume) = refl
-
-pub units_counted : (g : ℕ) (h : List Entry) → units_in g h ≡ count_by (adds_a_unit g) h
-units_counted g [] = refl
-units_counted g (e ∷ h) = omega (arith, units_counted g h, one e, sum_by-cons (λ x. cond (adds_a_unit g x) 1 0) e h)
-  where
-    one : (x : Entry) → adds_unit g x ≡ cond (adds_a_unit g x) 1 0
-    one (AddPlant loss) = refl
-    one (AddCompetitive plant declared internal) = refl
-    one (AddGuaranteed plant declared seasonal internal feeds) = refl
-    one (Correct group unit declared) = refl
-    one (PutAside group unit) = refl
-    one (TakeBack group unit) = refl
-    one (AddBuyer loss) = refl
-    one (Commit plant buyer volume) = refl
-
-pub buyers_counted : (h : List Entry) → buyers_in h ≡ count_by adds_a_buyer h
-buyers_counted [] = refl
-buyers_counted (e ∷ h) = omega (arith, buyers_counted h, one e, sum_by-cons (λ x. cond (adds_a_buyer x) 1 0) e h)
-  where
-    one : (x : Entry) → adds_buyer x ≡ cond (adds_a_buyer x) 1 0
-    one (AddPlant loss) = refl
-    one (AddCompetitive plant declared internal) = refl
-    one (AddGuaranteed plant declared seasonal internal feeds) = refl
-    one (Correct group unit declared) = refl
-    one (PutAside group unit) = refl
-    one (TakeBack group unit) = refl
-    one (AddBuyer loss) = refl
-    one (Commit plant buyer volume) = refl
-
 -- the commitment that an entry makes, if it makes one
 abbrev pub made_by : Entry → List Commitment
 made_by (Commit plant buyer volume) = record { plant = plant; buyer = buyer; volume = volume } ∷ []
@@ -187,72 +148,87 @@ commitments_more (TakeBack group unit) h = sym (append-nil (commitments_of h))
 commitments_more (AddBuyer loss) h = sym (append-nil (commitments_of h))
 commitments_more (Commit plant buyer volume) h = refl
 
+-- what an entry adds is one where it is of the kind, and else nothing
+record AddsOne (g : ℕ) (e : Entry) : Type 0 where
+  plant : adds_plant e ≡ cond (adds_a_plant e) 1 0
+  unit : adds_unit g e ≡ cond (adds_a_unit g e) 1 0
+  buyer : adds_buyer e ≡ cond (adds_a_buyer e) 1 0
+  commitment : length (made_by e) ≡ cond (commits e) 1 0
+
+adds_one : (g : ℕ) (e : Entry) → AddsOne g e
+adds_one g (AddPlant loss) = record { plant = refl; unit = refl; buyer = refl; commitment = refl }
+adds_one g (AddCompetitive plant declared internal) = record { plant = refl; unit = refl; buyer = refl; commitment = refl }
+adds_one g (AddGuaranteed plant declared seasonal internal feeds) = record { plant = refl; unit = refl; buyer = refl; commitment = refl }
+adds_one g (Correct group unit declared) = record { plant = refl; unit = refl; buyer = refl; commitment = refl }
+adds_one g (PutAside group unit) = record { plant = refl; unit = refl; buyer = refl; commitment = refl }
+adds_one g (TakeBack group unit) = record { plant = refl; unit = refl; buyer = refl; commitment = refl }
+adds_one g (AddBuyer loss) = record { plant = refl; unit = refl; buyer = refl; commitment = refl }
+adds_one g (Commit plant buyer volume) = record { plant = refl; unit = refl; buyer = refl; commitment = refl }
+
+-- how many there are
+counted : (test : Entry → Bool) (count : List Entry → ℕ) → count [] ≡ 0 → ((e : Entry) (h : List Entry) → count (e ∷ h) ≡ count h + cond (test e) 1 0) → (h : List Entry) → count h ≡ count_by test h
+counted test count none one [] = none
+counted test count none one (e ∷ h) =
+    omega (arith, counted test count none one h, one e h, sum_by-cons (λ x. cond (test x) 1 0) e h)
+
+pub plants_counted : (h : List Entry) → plants_in h ≡ count_by adds_a_plant h
+plants_counted = counted adds_a_plant plants_in refl (λ e h. omega (arith, (adds_one 0 e).plant))
+
+pub units_counted : (g : ℕ) (h : List Entry) → units_in g h ≡ count_by (adds_a_unit g) h
+units_counted g = counted (adds_a_unit g) (units_in g) refl (λ e h. omega (arith, (adds_one g e).unit))
+
+pub buyers_counted : (h : List Entry) → buyers_in h ≡ count_by adds_a_buyer h
+buyers_counted = counted adds_a_buyer buyers_in refl (λ e h. omega (arith, (adds_one 0 e).buyer))
+
 pub commitments_counted : (h : List Entry) → length (commitments_of h) ≡ count_by commits h
-commitments_counted [] = refl
-commitments_counted (e ∷ h) =
-    let more : length (commitments_of (e ∷ h)) ≡ length (commitments_of h) + length (made_by e) = ap length (commitments_more e h) ∙ length-append (commitments_of h) (made_by e) in
-    omega (arith, commitments_counted h, more, one e, sum_by-cons (λ x. cond (commits x) 1 0) e h)
-  where
-    one : (x : Entry) → length (made_by x) ≡ cond (commits x) 1 0
-    one (AddPlant loss) = refl
-    one (AddCompetitive plant declared internal) = refl
-    one (AddGuaranteed plant declared seasonal internal feeds) = refl
-    one (Correct group unit declared) = refl
-    one (PutAside group unit) = refl
-    one (TakeBack group unit) = refl
-    one (AddBuyer loss) = refl
-    one (Commit plant buyer volume) = refl
+commitments_counted =
+    counted commits (λ h. length (commitments_of h)) refl
+    (λ e h. ap length (commitments_more e h) ∙ length-append (commitments_of h) (made_by e) ∙ ap (λ n. length (commitments_of h) + n) (adds_one 0 e).commitment)
 
 -- the loss of a plant or a buyer that is there stays
 loss_later : (later base : List Entry) (p : ℕ) → p ≤ plants_in base → loss_in p (later ++ base) ≡ loss_in p base
-loss_later [] base p le = refl
-loss_later (e ∷ later) base p le = one e ∙ loss_later later base p le
+loss_later later base p le = all_leave (loss_in p) base one later
   where
-    grow : (l : List Entry) → plants_in base ≤ plants_in (l ++ base)
-    grow [] = omega arith
-    grow (x ∷ l) = omega (arith, grow l)
-
-    one : (x : Entry) → loss_in p (x ∷ (later ++ base)) ≡ loss_in p (later ++ base)
-    one (AddPlant loss) = cond-false _ _ _ (ne_eqb p (plants_in (later ++ base) + 1) (λ same. omega (arith, grow later)))
-    one (AddCompetitive plant declared internal) = refl
-    one (AddGuaranteed plant declared seasonal internal feeds) = refl
-    one (Correct group unit declared) = refl
-    one (PutAside group unit) = refl
-    one (TakeBack group unit) = refl
-    one (AddBuyer loss) = refl
-    one (Commit plant buyer volume) = refl
+    one : (e : Entry) (l : List Entry) → loss_in p (e ∷ (l ++ base)) ≡ loss_in p (l ++ base)
+    one (AddPlant loss) l =
+        let grow = all_grow plants_in base (λ e h. omega arith) l in
+        cond-false _ _ _ (ne_eqb p (plants_in (l ++ base) + 1) (λ same. omega (arith, grow)))
+    one (AddCompetitive plant declared internal) l = refl
+    one (AddGuaranteed plant declared seasonal internal feeds) l = refl
+    one (Correct group unit declared) l = refl
+    one (PutAside group unit) l = refl
+    one (TakeBack group unit) l = refl
+    one (AddBuyer loss) l = refl
+    one (Commit plant buyer volume) l = refl
 
 buyer_loss_later : (later base : List Entry) (b : ℕ) → b ≤ buyers_in base → buyer_loss_in b (later ++ base) ≡ buyer_loss_in b base
-buyer_loss_later [] base b le = refl
-buyer_loss_later (e ∷ later) base b le = one e ∙ buyer_loss_later later base b le
+buyer_loss_later later base b le = all_leave (buyer_loss_in b) base one later
   where
-    grow : (l : List Entry) → buyers_in base ≤ buyers_in (l ++ base)
-    grow [] = omega arith
-    grow (x ∷ l) = omega (arith, grow l)
-
-    one : (x : Entry) → buyer_loss_in b (x ∷ (later ++ base)) ≡ buyer_loss_in b (later ++ base)
-    one (AddPlant loss) = refl
-    one (AddCompetitive plant declared internal) = refl
-    one (AddGuaranteed plant declared seasonal internal feeds) = refl
-    one (Correct group unit declared) = refl
-    one (PutAside group unit) = refl
-    one (TakeBack group unit) = refl
-    one (AddBuyer loss) = cond-false _ _ _ (ne_eqb b (buyers_in (later ++ base) + 1) (λ same. omega (arith, grow later)))
-    one (Commit plant buyer volume) = refl
+    one : (e : Entry) (l : List Entry) → buyer_loss_in b (e ∷ (l ++ base)) ≡ buyer_loss_in b (l ++ base)
+    one (AddPlant loss) l = refl
+    one (AddCompetitive plant declared internal) l = refl
+    one (AddGuaranteed plant declared seasonal internal feeds) l = refl
+    one (Correct group unit declared) l = refl
+    one (PutAside group unit) l = refl
+    one (TakeBack group unit) l = refl
+    one (AddBuyer loss) l =
+        let grow = all_grow buyers_in base (λ e h. omega arith) l in
+        cond-false _ _ _ (ne_eqb b (buyers_in (l ++ base) + 1) (λ same. omega (arith, grow)))
+    one (Commit plant buyer volume) l = refl
 
 -- a commitment keeps its place
 commitment_later : (later base : List Entry) (k : ℕ) (d : Commitment) → k < length (commitments_of base) → get_or (commitments_of (later ++ base)) k d ≡ get_or (commitments_of base) k d
-commitment_later [] base k d lt = refl
-commitment_later (e ∷ later) base k d lt =
-    ap (λ l. get_or l k d) (commitments_more e (later ++ base))
-    ∙ get_or_append_left (commitments_of (later ++ base)) (made_by e) d k (omega (arith, grow later))
-    ∙ commitment_later later base k d lt
+commitment_later later base k d lt =
+    all_leave (λ h. get_or (commitments_of h) k d) base
+    (λ e l.
+    let grow = all_grow (λ h. length (commitments_of h)) base longer l in
+    ap (λ c. get_or c k d) (commitments_more e (l ++ base)) ∙ get_or_append_left (commitments_of (l ++ base)) (made_by e) d k (omega (arith, grow)))
+    later
   where
-    grow : (l : List Entry) → length (commitments_of base) ≤ length (commitments_of (l ++ base))
-    grow [] = omega arith
-    grow (x ∷ l) =
-        let more : length (commitments_of (x ∷ (l ++ base))) ≡ length (commitments_of (l ++ base)) + length (made_by x) = ap length (commitments_more x (l ++ base)) ∙ length-append (commitments_of (l ++ base)) (made_by x) in
-        omega (arith, grow l, more)
+    longer : (e : Entry) (h : List Entry) → length (commitments_of h) ≤ length (commitments_of (e ∷ h))
+    longer e h =
+        let more : length (commitments_of (e ∷ h)) ≡ length (commitments_of h) + length (made_by e) = ap length (commitments_more e h) ∙ length-append (commitments_of h) (made_by e) in
+        omega (arith, more)
 
 numbered : (h : List Entry) → Numbered h
 numbered h = record {
@@ -289,24 +265,25 @@ numbered h = record {
       ∙ get_or-append_seam (commitments_of before) c [] d;
 }
 
--- what an entry adds to what a plant has sold
-abbrev sold_for : ℕ → Entry → ℕ
-sold_for p (Commit plant buyer volume) = cond (eqb plant p) volume 0
-sold_for p e = 0
+-- commitments stand in the order in which they were made
+pub commitments_split : (later before : List Entry) → commitments_of (later ++ before) ≡ commitments_of before ++ commitments_of later
+commitments_split [] before = sym (append-nil (commitments_of before))
+commitments_split (e ∷ later) before =
+    commitments_more e (later ++ before)
+    ∙ ap (λ l. l ++ made_by e) (commitments_split later before)
+    ∙ append_assoc (commitments_of before) (commitments_of later) (made_by e)
+    ∙ ap (λ l. commitments_of before ++ l) (sym (commitments_more e later))
 
-sold_more : (e : Entry) (h : List Entry) (p : ℕ) → sold_in p (e ∷ h) ≡ sold_in p h + sold_for p e
-sold_more (AddPlant loss) h p = omega arith
-sold_more (AddCompetitive plant declared internal) h p = omega arith
-sold_more (AddGuaranteed plant declared seasonal internal feeds) h p = omega arith
-sold_more (Correct group unit declared) h p = omega arith
-sold_more (PutAside group unit) h p = omega arith
-sold_more (TakeBack group unit) h p = omega arith
-sold_more (AddBuyer loss) h p = omega arith
-sold_more (Commit plant buyer volume) h p = sold_push p (commitments_of h) (record { plant = plant; buyer = buyer; volume = volume })
+-- what a plant has sold of two lists, of earlier and later entries, and with one entry more
+sold_append : (p : ℕ) (xs ys : List Commitment) → sold_by p (xs ++ ys) ≡ sold_by p xs + sold_by p ys
+sold_append p [] ys = omega arith
+sold_append p (x ∷ xs) ys = omega (arith, sold_append p xs ys)
 
-sold_split : (later before : List Entry) (p : ℕ) → sold_in p (later ++ before) ≡ sold_in p later + sold_in p before
-sold_split [] before p = omega arith
-sold_split (e ∷ later) before p = omega (arith, sold_split later before p, sold_more e (later ++ before) p, sold_more e later p)
+sold_split : (later before : List Entry) (p : ℕ) → sold_in p (later ++ before) ≡ sold_in p before + sold_in p later
+sold_split later before p = ap (sold_by p) (commitments_split later before) ∙ sold_append p (commitments_of before) (commitments_of later)
+
+sold_more : (e : Entry) (h : List Entry) (p : ℕ) → sold_in p (e ∷ h) ≡ sold_in p h + sold_by p (made_by e)
+sold_more e h p = ap (sold_by p) (commitments_more e h) ∙ sold_append p (commitments_of h) (made_by e)
 
 each_sold : (h : List Entry) → EachSold h
 each_sold h = record {
@@ -320,7 +297,7 @@ each_sold h = record {
   nothing = λ made p. ap (sold_in p) made;
 }
   where
-    none : (e : Entry) (p : ℕ) → ((b v : ℕ) → (e ≡ Commit p b v) → ⊥) → sold_for p e ≡ 0
+    none : (e : Entry) (p : ℕ) → ((b v : ℕ) → (e ≡ Commit p b v) → ⊥) → sold_by p (made_by e) ≡ 0
     none (AddPlant loss) p other = refl
     none (AddCompetitive plant declared internal) p other = refl
     none (AddGuaranteed plant declared seasonal internal feeds) p other = refl
@@ -329,7 +306,8 @@ each_sold h = record {
     none (TakeBack group unit) p other = refl
     none (AddBuyer loss) p other = refl
     none (Commit plant buyer volume) p other =
-        cond-false _ _ _ (ne_eqb plant p (λ same. other buyer volume (ap (λ x. Commit x buyer volume) same)))
+        let off : cond (eqb plant p) volume 0 ≡ 0 = cond-false _ _ _ (ne_eqb plant p (λ same. other buyer volume (ap (λ x. Commit x buyer volume) same))) in
+        omega (arith, off)
 
 -- so of a proper history
 pub entries_count : (h : List Entry) → Proper h → EntriesCount h
@@ -337,12 +315,3 @@ entries_count h ok = record { last = last_counts h ok; numbered = numbered h; so
 
 pub accepted_count : (h entries : List Entry) → Proper h → EntriesCount (accepted h entries)
 accepted_count h entries ok = entries_count (accepted h entries) (accepted_proper h entries ok)
-
--- commitments stand in the order in which they were made
-pub commitments_split : (later before : List Entry) → commitments_of (later ++ before) ≡ commitments_of before ++ commitments_of later
-commitments_split [] before = sym (append-nil (commitments_of before))
-commitments_split (e ∷ later) before =
-    commitments_more e (later ++ before)
-    ∙ ap (λ l. l ++ made_by e) (commitments_split later before)
-    ∙ append_assoc (commitments_of before) (commitments_of later) (made_by e)
-    ∙ ap (λ l. commitments_of before ++ l) (sym (commitments_more e later))
