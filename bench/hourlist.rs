@@ -88,7 +88,7 @@ struct Step {
     price: u64,
 }
 
-/// A stepped price curve. The last step goes on without end.
+/// A stepped price curve. Past the last step its price goes on.
 struct Curve {
     steps: Vec<Step>,
 }
@@ -109,7 +109,7 @@ impl Curve {
         })
     }
 
-    /// The cost of kWh `from + 1` to `to`, each at the price that `priced` makes of its own.
+    /// The cost of kWh `from + 1` to `to`, each at what `priced` makes of its price.
     fn cost_by(&self, from: u64, to: u64, priced: impl Fn(u64) -> u64) -> u64 {
         self.pieces(from, to).map(|piece| piece.width * priced(piece.price)).sum()
     }
@@ -208,11 +208,11 @@ struct Buyer {
     used: u64,
 }
 
-/// What the operator says of a unit's running.
+/// The control part of a unit's reading: energies in kWh, the maintenance day and the exit minute.
 #[derive(Default)]
 struct Control {
     active: u64,
-    /// Of types 2, 3, 5, 6 and 8.
+    /// Deviations of types 2, 3, 5, 6 and 8.
     deviations: [u64; 5],
     day: u64,
     minute: u64,
@@ -272,7 +272,7 @@ struct Hour {
     commitments: usize,
 }
 
-/// The place of row `number` in a table of so many rows.
+/// The place of row `number` in a table of so many rows, if it is there.
 fn place_of(number: u64, rows: usize) -> Option<usize> {
     (1..=rows as u64).contains(&number).then(|| number as usize - 1)
 }
@@ -282,7 +282,7 @@ fn curve(values: &[u64]) -> Curve {
     Curve { steps: values.chunks_exact(2).map(|pair| Step { width: pair[0], price: pair[1] }).collect() }
 }
 
-/// Whether a list of widths and prices is one of steps, their prices aside.
+/// Whether the number of steps and each width are within their limits.
 fn is_stepped(values: &[u64]) -> bool {
     (1..=MOST_STEPS).contains(&(values.len() / 2))
         && values.iter().step_by(2).all(|width| (1..=MOST_ENERGY).contains(width))
@@ -582,7 +582,7 @@ impl Hour {
     }
 }
 
-/// Splits a share over the steps of a group's units by price, then unit, then place. Answers what stays uncovered.
+/// Splits a share over the steps of a group's units by price, then unit, then place. Returns what stays uncovered.
 fn split(share: u64, offered: &mut [Offered], mut allocate: impl FnMut(usize, u64)) -> u64 {
     offered.sort_by_key(|step| step.price);
     let mut left = share;
@@ -602,7 +602,7 @@ fn quotient(money: i64, energy: i64) -> Option<u64> {
 }
 
 impl CompetitiveReading {
-    /// In whole rial.
+    /// The opportunity payment less both penalties, in whole rial.
     fn adjustment(&self) -> i64 {
         self.opportunity as i64 - self.planning as i64 - self.cooperation as i64
     }
@@ -618,7 +618,7 @@ impl Competitive {
         let executed = if reading.asked { plant.net(reading.executed, unit.rho) } else { 0 };
         let b = plant.at_reference(taken).max(executed).min(bill);
 
-        // The offer is free up to the amount that was allocated.
+        // In the modified offer the kWh up to the allocated amount are free.
         let modified = |from: u64, to: u64| offer.cost(from.max(unit.allocated), to);
         let first = modified(0, a);
         let second = if b > a { cost.cost(a, b).min(modified(a, b)) } else { 0 };

@@ -3,8 +3,8 @@
 
     python3 bench/hours.py FOLDER
 
-writes them to the folder as NAME.hour. All are lawful: each is listed, none has a fault. They are drawn as
-reference/file_cases.py draws its largest hour, each from the same seed, and hold as many records as chosen.
+writes them to the folder as NAME.hour. None has a fault, so each is listed. They are drawn as reference/file_cases.py
+draws its largest hour, each from the same seed, and hold as many records as chosen.
 """
 import os
 import sys
@@ -47,14 +47,15 @@ class Sized(Drawing):
 
 
 def sized_hour(plants=32, units=128, steps=10, buyers=64, commitments=768, energy=ENERGY, price=None, seed=SEED):
-    """The file of an hour with so many units in each group. As called without arguments it has the largest size. Prices
-    are multiples of `price`, or of a number that is drawn."""
+    """The file of an hour with so many plants, units in each group, buyers and commitments, and steps in each list.
+    Without arguments it has the largest size. Energies are below `energy`, and prices are multiples of `price`, or of
+    a number that is drawn."""
     plan = {PLANT: plants, COMPETITIVE: units, GUARANTEED: units, BUYER: buyers, COMMIT: commitments}
     return write_file(Sized(Random(seed), plan, energy, steps, price).hour())
 
 
 def empty_hour():
-    """Nothing is entered."""
+    """The file of an hour in which nothing is entered."""
     return write_file([record(HEADER, 1_000, 10_000, 200, 0, 0), record(CLOSE), record(SETTLE)])
 
 

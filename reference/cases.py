@@ -4,8 +4,8 @@
     python3 reference/cases.py > crates/hour_cases/stdout
 
 Fixed cases come first: calls that are turned down, full tables, and books that are used again. Then come pseudo-random
-hours, and lists of calls in whatever order. The program draws the same, with the same numbers in the same order. With the argument `branches` this
-prints how often each branch of the rules occurs in the pseudo-random hours.
+hours, and lists of calls in whatever order. The program draws the same hours by the same numbers, in the same order.
+With the argument `branches` this prints how often each branch of the rules occurs in the pseudo-random hours.
 """
 import os
 import sys
@@ -23,7 +23,7 @@ from hour import (COMPETITIVE, GUARANTEED, MOST_KWH, MOST_PRICE, AddBuyer, AddCo
 HOURS = 200
 MIXED_HOURS = 30
 
-# The fields of a reading by kind, and the most that a field of a kind may be.
+# What is drawn for each field of a reading, in the order of docs/hour.md, and the most that such a field may be.
 COMPETITIVE_FIELDS = ("energy half part part energy mark energy part part part part part day minute "
                       "gain penalty penalty").split()
 GUARANTEED_FIELDS = "energy energy part part part part part day minute".split()
@@ -48,7 +48,7 @@ def refusal_line(number):
 
 
 def question_lines(listing, numbers):
-    """For each number: the plant, the buyer, and the unit of groups 0 to 3."""
+    """What a settled hour answers about each number: the plant, the buyer, and the unit of groups 0 to 3."""
     known = {}
     for line in listing.splitlines():
         words = line.split()
@@ -79,7 +79,7 @@ def header_cases():
     return "case headers\n" + "".join(refusal_line(hour.header_refusal(header)) for header in headers)
 
 
-# 8 comes before 9, over the whole list.
+# On both sides of each limit, and where 8 and 9 both apply: 8 is judged over the whole list first.
 STEP_LISTS = (
     [], [(1, 5)], [(1, 5)] * 10, [(1, 5)] * 11, [(0, 5)], [(2_000_000, 5)], [(2_000_001, 5)], [(1, 10_000_000)],
     [(1, 10_000_001)], [(0, 10_000_001)], [(1, 10_000_001)] * 11,
@@ -137,7 +137,7 @@ def before_the_first_rows():
 
 
 def units_at_their_limits():
-    """Leaves 4 competitive and 7 guaranteed units."""
+    """New units on both sides of each limit. 4 competitive and 7 guaranteed ones are accepted."""
     competitive = [(0, 5, 0), (1, 5, 0), (2, 5, 0), (1, 5, 2_000), (1, 5, 2_001), (1, 0, 0), (1, 2_000_000, 0),
                    (1, 2_000_001, 0)]
     guaranteed = [(0, 5, 5, 0, 0), (1, 5, 5, 0, 0), (2, 5, 5, 0, 0), (1, 5, 5, 2_000, 0), (1, 5, 5, 2_001, 0),
@@ -177,7 +177,7 @@ def readings_by_number():
 
 
 def readings_at_their_limits():
-    """Each field on both sides of its limit. The lost energy covers any energy made under a technical limit."""
+    """Each field on both sides of its limit. The lost energy covers any UL energy."""
     readings = []
     for place, kind in enumerate(COMPETITIVE_FIELDS):
         for value in (MOST[kind], MOST[kind] + 1):
@@ -212,7 +212,7 @@ def limits_hour():
 
 
 def full_tables():
-    """One row past the last of each table."""
+    """Rows past the last of each table."""
     entries = []
     for number in range(65):
         entries += [AddPlant(number * 30), AddBuyer(number * 30)]
@@ -228,7 +228,7 @@ def full_tables():
 
 
 def full_readings():
-    """Of every unit and every buyer, and of those past the last."""
+    """Readings of every unit and every buyer, and of those past the last."""
     readings = []
     for number in range(1, 130):
         readings.append(ReadCompetitive(number, net=2 * number, accepted=number, p_act=number % 7))
@@ -246,7 +246,7 @@ def small_hour(readings):
 
 
 def units_without_rows():
-    """One row for two units of each group; net energies at their limit and over it, with a loss and without."""
+    """One row for two units of each group, and net energies at their limit and over it, with a loss and without."""
     entries = [AddPlant(0), AddPlant(200), AddBuyer(0), AddCompetitive(1, 40, 0), AddCompetitive(1, 60, 0),
                AddGuaranteed(1, 30, 20, 0, 1), AddGuaranteed(2, 50, 50, 0, 1), Commit(1, 1, 70), Commit(2, 1, 15)]
     readings = [ReadCompetitive(1, net=MOST_KWH, accepted=100), ReadCompetitive(1, net=MOST_KWH + 1),
@@ -299,7 +299,7 @@ class Random:
         self.state = seed
 
     def below(self, bound):
-        """A number below `bound`, or 0. Nothing is drawn where the bound is 0."""
+        """A number below `bound`, and 0 where the bound is 0, for which nothing is drawn."""
         if bound == 0:
             return 0
         self.state = (self.state * 6364136223846793005 + 1442695040888963407) % 2**64
@@ -313,7 +313,7 @@ class Random:
         return 0 if self.below(2) == 0 else self.below(bound)
 
     def one_up_to(self, count):
-        """The number of a row among `count`, and now and then 0."""
+        """The number of one of `count` rows, and now and then 0."""
         return 0 if self.below(24) == 0 else self.below(max(count, 1)) + 1
 
 
@@ -495,7 +495,7 @@ class Source:
     # Rows
 
     def row_count(self, units):
-        """How many rows a group has: too few, or for the units that are added late too."""
+        """How many rows a group of so many units has: now and then too few, else enough for a late unit too."""
         match self.random.below(4):
             case 0:
                 return self.random.below(units + 1)
@@ -549,8 +549,8 @@ def drawn_hour(number):
 
 
 def mixed_calls(number):
-    """The calls of a drawn hour with others out of turn among them, and the state that they lead to. Every third list ends
-    before settling, and every third before closing."""
+    """The calls of a drawn hour with others out of turn among them, and the state that they lead to. Every third list
+    ends before settling, and every third before closing."""
     case = drawn_hour(number)
     entries, readings = case["entries"], case["readings"]
     close = hour.Close(case["offers1"], case["offers2"])
@@ -595,7 +595,7 @@ def count_units(counts, case, calls, figures):
 
 
 def count_payment(counts, case, calls, of, unit, reading, sums):
-    """The branches of what a competitive unit with a price row is paid."""
+    """Counts the branches of what a competitive unit with a price row is paid."""
     added, row = hour.units_of(calls, COMPETITIVE)[unit], case["rows1"][unit - 1]
     loss = hour.numbered(calls, AddPlant)[added.plant].loss
     com = hour.carried(reading.accepted + reading.lost - reading.limited, loss)
@@ -637,7 +637,7 @@ def count_plants(counts, figures, money):
 
 
 def count_readings(counts, calls, read):
-    """Also gives the adjustments of the hour, in thousandths of a rial."""
+    """Counts the branches of readings. Returns the adjustments of the hour, in thousandths of a rial."""
     adjustments = 0
     for (kind, _), reading in read.items():
         if kind is not ReadBuyer:

@@ -21,7 +21,7 @@ from hour_file import (BUYER, BUYER_READING, CLOSE, COMMIT, COMPETITIVE, COMPETI
                        GUARANTEED, GUARANTEED_READING, HEADER, MOST_BYTES, MOST_VALUE, PLANT, PUT_ASIDE, READINGS, SETTLE,
                        TAKE_BACK, VALUE, WORD, Record, bytes_of, head, kind_of, list_file, number_of, spell, write_file)
 
-# The stored cases hold so many random hours, as drawn and damaged. A random one has at most so many bytes.
+# How many random hours the stored cases hold as drawn, and how many damaged; and the most bytes of such a file.
 LAWFUL, DAMAGED = 70, 130
 MOST_STORED = 6_000
 
@@ -43,10 +43,11 @@ def shuffled(random, items):
 # Drawn hours --------------------------------------------------------------------------------------------------------
 
 class Drawing:
-    """Draws the records of a lawful hour. `plan` says how many of each kind of entry there are."""
+    """Draws the records of an hour without a fault. `plan` says how many of each kind of entry there are."""
 
     def __init__(self, random, plan, energy, every=False):
-        """With `every` all lists have ten steps, each unit and buyer is read once, and volumes are small."""
+        """`energy` bounds the energies. With `every` all lists have ten steps, each unit and buyer is read once, and
+        volumes are small."""
         self.random, self.plan, self.energy, self.every = random, plan, energy, every
         self.most_steps = random.one_of((1, 3, 3, 10))
         self.price = random.one_of((1, 100, 100, 1_000_000))
@@ -137,7 +138,7 @@ class Drawing:
         return drawn, put_off
 
     def entries(self):
-        """In any order. An entry that isn't possible at its turn is put off to the end, or left out."""
+        """Entries in any order. One that isn't possible at its turn is put off to the end, or left out."""
         first, put_off = self.take(shuffled(self.random, [kind for kind in self.plan for _ in range(self.plan[kind])]))
         return first + self.take(sorted(put_off))[0]
 
@@ -254,7 +255,7 @@ SIDES = {
     BUYER_READING: [(0, 2), (50_000_000, 50_000_001)],
 }
 
-# 8 and 9 of the step lists: an offer and a cost curve.
+# Pairs of step lists, an offer and a cost curve, that are made or refused with 8 or 9.
 FINE = [(10, 5)]
 STEP_LISTS = [
     ([(1, 5)] * 10, [(1, 5)] * 10), ([(1, 5)] * 11, FINE), (FINE, [(1, 5)] * 11), ([], FINE), (FINE, []), ([], []),
@@ -305,7 +306,7 @@ def sides_of_steps():
 
 
 def sides_of_sums():
-    """What is committed at one plant, over two buyers."""
+    """Commitments of one plant to two buyers, on both sides of the most that it may sell."""
     start = [BASE[0], record(PLANT, 0), record(BUYER, 0), record(BUYER, 0), record(PLANT, 0)]
     for volumes in ((19_999_999, 1), (19_999_999, 2), (20_000_000, 1), (20_000_000, 20_000_001),
                     (10_000_000, 10_000_000)):
@@ -355,7 +356,7 @@ KIND_OF = {call: kind for kind, call in (ENTRIES | READINGS).items()}
 
 
 def record_of_call(call, rows):
-    """A competitive unit takes the next of the price rows."""
+    """The record of a call. A competitive unit takes the next of the price rows."""
     if isinstance(call, hour.AddCompetitive):
         row = next(rows)
         return unit(call.plant, call.gross, call.rho, list(row.offer.steps), list(row.cost.steps))
@@ -386,7 +387,7 @@ def wrong_counts():
 
 
 def wrong_places():
-    """Each kind first, after the header, after close and after settle."""
+    """A record of each kind in the first place, after the header, after close and after settle."""
     close = place_of(BASE, CLOSE)
     for kind in KINDS:
         one = BASE[place_of(BASE, kind)]
@@ -400,7 +401,7 @@ def wrong_places():
 
 
 def strange_words():
-    """Words between records that are no head of a record, and a unit whose count doesn't fit."""
+    """Between records words that are no head of a record, and units whose count doesn't fit."""
     for word in (0, MOST_VALUE, head(15, 0), head(15, 2), head(PLANT, MOST_VALUE), 2**32 - 1):
         for place in (0, 1, place_of(BASE, CLOSE), len(BASE) - 1, len(BASE)):
             yield bytes_of([*spell(BASE[:place]), word, *spell(BASE[place:])])
@@ -413,7 +414,7 @@ def strange_words():
 
 
 def two_faults():
-    """The earlier record's fault, and of one record's faults the first in the order of layers."""
+    """Files with two faults. The earlier record's is told, and of one record's faults 15 before 16 before a refusal."""
     refused, malformed = record(PLANT, 2_001), record(PLANT, 1, 2)
     close = place_of(BASE, CLOSE)
     start, rest = BASE[:close], BASE[close:]
@@ -450,7 +451,7 @@ def two_faults():
 
 # Damages to records, words and bytes --------------------------------------------------------------------------------
 
-# Values at limits and past them, and small numbers.
+# Small numbers, and values at limits and past them.
 ODD_VALUES = (0, 0, 1, 2, 3, 11, 401, 1_440, 2_000, 2_001, 50_001, 1_000_001, MOST_KWH + 1, MOST_PRICE, MOST_PRICE + 1,
               MOST_VOLUME, MOST_VOLUME + 1, 50_000_001, 100_000_001, MOST_VALUE)
 
@@ -464,7 +465,7 @@ def inserted(items, place, *new):
 
 
 def value_changed(random, records):
-    """Twice in one record now and then."""
+    """One value of a record changed, now and then two."""
     place = random.below(len(records))
     values = list(records[place].values)
     for _ in range(random.one_of((1, 1, 2)) if values else 0):
@@ -485,7 +486,7 @@ def limit_passed(random, records):
 
 
 def sum_passed(random, records):
-    """More under a technical limit than accepted and lost, a plant that commits too much, or too many plants."""
+    """More UL energy than accepted and lost energy, a plant that commits too much, or too many plants."""
     places = [place for place, one in enumerate(records) if one.kind in (COMPETITIVE_READING, COMMIT, PLANT)]
     if not places:
         return value_changed(random, records)
@@ -529,14 +530,14 @@ def records_swapped(random, records):
 
 
 def record_added(random, records):
-    """Of any kind, with small values."""
+    """One record more, of any kind, with small values."""
     kind = random.one_of(KINDS)
     values = [random.below(3) for _ in range(COUNTS.get(kind, 8))]
     return inserted(records, random.below(len(records) + 1), record(kind, *values))
 
 
 def order_broken(random, records):
-    """Header, close or settle once more or not at all."""
+    """The header, close or settle once more, or not at all."""
     kind = random.one_of((HEADER, CLOSE, SETTLE))
     own = [one for one in records if one.kind == kind]
     if own and random.below(2) == 0:
@@ -669,7 +670,7 @@ def damaged(random, records):
 # Files too large to be stored ---------------------------------------------------------------------------------------
 
 def full_commitments(random):
-    """768 commitments, and mostly one more."""
+    """An hour of 768 commitments, and mostly one more."""
     start = [BASE[0], record(PLANT, 0), record(BUYER, 0), unit(1, 40, 0, FINE, FINE)]
     commits = [record(COMMIT, 1, 1, random.below(5) + 1) for _ in range(768)]
     last = random.one_of(((), (1, 1, 1), (1, 1, 0), (1, 1, MOST_VOLUME + 1), (1, 2, 1), (2, 1, 1)))
@@ -677,7 +678,7 @@ def full_commitments(random):
 
 
 def filled_to(words, random):
-    """A lawful hour of so many words; most of them are readings of a buyer and changes of a unit."""
+    """An hour without a fault of so many words; most are readings of a buyer and changes of a unit."""
     count = words - len(spell(BASE))
     corrections = count % 3 + 3 * random.below(100)
     fill = [record(CORRECT, random.below(2) + 1, 1, random.below(60)) for _ in range(corrections)]
@@ -687,7 +688,7 @@ def filled_to(words, random):
 
 
 def longest_file(random):
-    """As long as a file may be, or longer, or damaged."""
+    """A file as long as one may be, or longer, or damaged."""
     most = MOST_BYTES // WORD
     match random.below(6):
         case 0:

@@ -29,10 +29,10 @@ READING_OF = {COMPETITIVE: COMPETITIVE_READING, GUARANTEED: GUARANTEED_READING}
 
 
 class FullDrawing(Drawing):
-    """Draws the records of a lawful hour of full energies.
+    """Draws the records of an hour of full energies without a fault.
 
-    In a `near` hour each plant is billed about what it sold. So what rates are divided by is small or not positive. In
-    one hour of sixteen no buyer uses anything.
+    In a `near` hour each plant is billed about what it sold, so that what rates are divided by is small or not
+    positive. In one hour of sixteen no buyer uses anything.
     """
 
     def __init__(self, random, plan, every, near):
@@ -44,7 +44,7 @@ class FullDrawing(Drawing):
         self.sold, self.units, self.nets = Counter(), defaultdict(list), {}
 
     def up_to(self, most):
-        """Mostly any number up to the most, and now and then 0 or the most."""
+        """A number up to `most`; now and then 0 or `most` itself."""
         return self.random.one_of((0, most, *[self.random.below(most + 1)] * 14))
 
     # Entries
@@ -120,8 +120,8 @@ class FullDrawing(Drawing):
 
 
 def full_hour(random):
-    """Half of them have as many plants, units, buyers and commitments as there is room for, and ten steps in each list.
-    One in four is near."""
+    """The records of an hour. Half of the hours have as many plants, units, buyers and commitments as there is room
+    for, and ten steps in each list. One in four is near."""
     largest = random.below(2) == 0
     plan = {kind: room if largest else random.below(room) + 1 for kind, room in ROOMS.items()}
     plan |= {CORRECT: random.below(60), PUT_ASIDE: random.below(20), TAKE_BACK: random.below(20)}
@@ -129,7 +129,7 @@ def full_hour(random):
 
 
 def full_file(random):
-    """The records of an hour and its file. One file in ten is damaged."""
+    """The records of an hour, and its file, which one time in ten is damaged."""
     records = full_hour(random)
     return records, damaged(random, records) if random.below(10) == 0 else write_file(records)
 

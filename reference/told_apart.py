@@ -1,10 +1,10 @@
-"""Hours that tell apart what a slip would mix up, as the arguments of `settle_hour`.
+"""Hours in which mixed-up tables, numbers or orders change an answer, as the arguments of `settle_hour`.
 
 `orders` has put aside, correct and take back in several orders, units of the same number in both groups, units and
-buyers that are read again, a seasonal energy of 0, sums whose fractions come to a kWh more or less when they are dropped
-singly, and a price that only the kWh Com has. `four_counts` has a different number of plants, competitive units,
-guaranteed units and buyers, and calls that name each number; in turn each of the tables is the longest. `full_group`
-fills one group and not the other.
+buyers that are read again, a seasonal energy of 0, sums whose fractions come to a kWh more or less when they are
+dropped singly, and a price that only the kWh Com has. `four_counts` has a different number of plants, competitive
+units, guaranteed units and buyers, and calls that name each number; in turn each of the tables is the longest.
+`full_group` fills one group and not the other.
 """
 from hour import (AddBuyer, AddCompetitive, AddGuaranteed, AddPlant, Commit, Correct, Header, PriceRow, PutAside, ReadBuyer,
                   ReadCompetitive, ReadGuaranteed, SteppedCost, SteppedOffer, TakeBack, Tariff)
@@ -24,7 +24,7 @@ def added():
 
 
 def changed():
-    """Unit 4 of group 1 and unit 6 of group 2 stay aside."""
+    """Changes after which unit 4 of group 1 and unit 6 of group 2 are aside."""
     return [PutAside(1, 1), Correct(1, 1, 50), TakeBack(1, 1), Correct(1, 2, 20), Correct(1, 2, 55), Correct(1, 3, 90),
             Correct(1, 3, 65), PutAside(1, 3), TakeBack(1, 3), PutAside(1, 4), Correct(1, 4, 80), PutAside(1, 4),
             PutAside(2, 4), TakeBack(2, 4), PutAside(1, 5), TakeBack(1, 5), TakeBack(1, 2), PutAside(2, 2),
@@ -38,7 +38,7 @@ def sold():
 
 
 def read_first():
-    """These are replaced."""
+    """Readings that later ones replace."""
     return [ReadGuaranteed(1, 50, 10), ReadBuyer(1, 100), ReadCompetitive(1, 70, 65, p_act=40, opportunity=3),
             ReadBuyer(2, 40), ReadGuaranteed(1, 20, 44), ReadBuyer(1, 60), ReadBuyer(4, 9),
             ReadCompetitive(1, 30, 20, p_act=41, opportunity=5)]
@@ -55,13 +55,13 @@ def read_last():
 
 
 def turned_down():
-    """These replace nothing."""
+    """Readings that are turned down, and so replace nothing."""
     return [ReadGuaranteed(1, 8, 4, day=401), ReadBuyer(1, 50_000_001), ReadCompetitive(3, 7, 2, limited=3),
             ReadBuyer(5, 9), ReadCompetitive(6, 1), ReadGuaranteed(7, 1)]
 
 
 def price_rows():
-    """By the first offer kWh 63, 69, 70, 71, 72 and 73 have a price of their own."""
+    """Five price rows. By the first offer kWh 63, 69, 70, 71, 72 and 73 have a price of their own."""
     offers = [[(62, 100), (1, 110), (5, 120), (1, 130), (1, 140), (1, 150), (1, 160), (1, 170), (10, 180)],
               [(18, 300), (1, 400), (1, 500), (40, 600)], [(33, 200), (60, 490)], [(50, 100)], [(3, 300), (5, 450)]]
     costs = [[(100, 1_000)], [(30, 700), (30, 350)], [(40, 60), (60, 210)], [(50, 80)], [(10, 250)]]
@@ -98,7 +98,7 @@ def counted_entries():
 
 
 def counted_readings():
-    """Of the numbers 0 to 8, in each of the tables."""
+    """Readings of the numbers 0 to 8 in each table."""
     readings = []
     for number in range(9):
         readings.append(ReadCompetitive(number, 10 * number, 9 * number, p_act=number))

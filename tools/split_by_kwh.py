@@ -1,5 +1,5 @@
 #!/usr/bin/env python3
-"""Splits the shares of a job kWh by kWh, apart from the program `split`.
+"""Splits the shares of a job kWh by kWh, as a second calculation beside the program `split`.
 
 Reads the text of a job without faults on standard input and prints what `split` must print.
 """
@@ -16,7 +16,7 @@ def price_of(kwh, steps):
 
 
 def all_kwh(units):
-    """Every kWh within the limits as (price, unit, place), in the order they are taken."""
+    """Every kWh within the limits as (price, unit, place), in the order in which they are taken."""
     found = []
     for unit, (limit, steps) in enumerate(units):
         for place in range(1, limit + 1):

@@ -15,7 +15,7 @@ use std::fs;
 // The greatest number with three digits.
 const MOST_CASES: u32 = 999;
 
-// What the bytes of a buffer are before it is used.
+// Each byte of a buffer before it is written.
 const UNUSED: u8 = 7;
 
 fn contents(rt: &HostRuntime, name: &str) -> Result<Vec<u8>> {
@@ -56,7 +56,7 @@ fn fits_exactly(heap: Global, file: &[u8], want: &[u8]) -> Result<bool, AllocErr
     )
 }
 
-// Whether the text stored for a case is what is printed for its file. A listing is also written to buffers.
+// Whether the text stored for a case is what is printed for its file, and a listing is written to buffers likewise.
 fn is_same(heap: Global, file: &[u8], want: &[u8]) -> Result<bool, AllocError> {
     let text = printed(heap, file)?;
     if text.as_bytes() != want {

@@ -1,8 +1,8 @@
-// That a text that differs from what is printed is told apart, and a buffer of another length.
+// That the comparison tells a text from another by one byte, and finds which buffers a listing fits.
 use crate::{fills_buffer, fits_exactly, is_same, refuses_buffer};
 use std::test::Fail;
 
-// Header, close and settle.
+// A file of a header, close and settle.
 const EMPTY_HOUR: &[u8] = &[
     5, 0, 0, 0x10, 0, 0, 0, 0, 0, 0, 0, 0, 0, 0, 0, 0, 0, 0, 0, 0, 0, 0, 0, 0, 0, 0, 0, 0xa0, 0, 0,
     0, 0xe0,

@@ -3,10 +3,10 @@ use book::{Adjustments, BookRefusal, Entry, GuaranteedReading, Reading, UnitRead
 use curves::Step;
 use settlement::{CompetitiveEnergies, Control};
 
-/// What a call answers.
+/// What a call answers: a number, or its refusal.
 pub type Answer = Result<u32, BookRefusal>;
 
-// By the numbers that the entries and readings hold, as the public calls take them: cases give ones out of their sets too.
+// Groups and marks are plain numbers here, since cases also give some that are outside their sets.
 pub(crate) fn plant(loss: u32) -> Entry {
     Entry::AddPlant { loss }
 }
@@ -77,8 +77,7 @@ fn control(fields: [u32; 8]) -> Control {
     }
 }
 
-/// The reading of a competitive unit by its fields, in the order of the rules: a list, since the cases set one of them
-/// by its place.
+/// The reading of a competitive unit by its 17 fields, in the order of docs/hour.md.
 pub(crate) fn unit_reading(fields: [u32; 17]) -> UnitReading {
     let [
         net,
@@ -119,7 +118,7 @@ pub(crate) fn unit_reading(fields: [u32; 17]) -> UnitReading {
     }
 }
 
-/// The reading of a guaranteed unit by its fields, in the order of the rules.
+/// The reading of a guaranteed unit by its 9 fields, in the order of docs/hour.md.
 pub(crate) fn guaranteed_reading(fields: [u32; 9]) -> GuaranteedReading {
     let [net, p_act, type2, type3, type5, type6, type8, day, minute] = fields;
     GuaranteedReading {

@@ -26,7 +26,7 @@ pub(crate) fn drawn_plan<G: Offer + Drawn, S: Offer + Drawn>(
 }
 
 impl Cases {
-    // Every third hour is run in the same way: its number says which, so that a line of the report names the case.
+    // Draws and runs one hour. Its number says in which of three ways, and so does the report, which begins with it.
     fn run_drawn<G: Offer + Drawn, S: Offer + Drawn>(&mut self, number: u32) -> anyhow::Result<()> {
         self.report.line(format_args!("hour {number}"))?;
         let plan = drawn_plan::<G, S>(self.heap, number)?;
@@ -37,7 +37,7 @@ impl Cases {
         }
     }
 
-    /// Draws and runs one hour. The kinds of its guaranteed offers go by its number.
+    /// Draws and runs one hour. Its number says of what kinds its guaranteed offers are.
     pub(crate) fn drawn_hour(&mut self, number: u32) -> anyhow::Result<()> {
         match number % 4 {
             0 => self.run_drawn::<Tariff, Tariff>(number),

@@ -23,7 +23,7 @@ fn entries(entries: &mut Vec<Entry>) -> Result<(), AllocError> {
     ])
 }
 
-// With a loss and without, net energies at their limit and over it. There is no unit 3.
+// Net energies at their limit and over it, with a loss and without. There is no unit 3.
 fn readings(readings: &mut Vec<Reading>) -> Result<(), AllocError> {
     readings.extend(&[
         competitive_with(1, |r| {

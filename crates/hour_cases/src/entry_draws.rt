@@ -9,7 +9,7 @@ const PERCENTAGES: [u32; 20] = [
     2_000, 2_001,
 ];
 
-// Whether a unit feeds the distribution grid.
+// β, which is 1 where a unit feeds the distribution grid; 2 is refused.
 const FEEDS: [u32; 20] = [0, 0, 0, 0, 0, 0, 0, 0, 0, 1, 1, 1, 1, 1, 1, 1, 1, 1, 1, 2];
 
 const GROUPS: [u32; 14] = [1, 1, 1, 1, 1, 1, 2, 2, 2, 2, 2, 2, 0, 3];
@@ -78,7 +78,7 @@ impl Source {
     // A correction, a unit put aside or taken back, or a late unit.
     fn any_change(&mut self) -> Entry {
         let group = self.random.one_of(&GROUPS);
-        // A number, since the group is drawn out of its set too.
+        // The groups 0 and 3 are refused; their unit is drawn as one of group 1.
         let count = if group == 2 {
             self.guaranteed
         } else {

@@ -93,7 +93,7 @@ impl Cases {
         self.nothing_read()
     }
 
-    // The small hour is let go when it is closed and read.
+    // The small hour is let go once it is closed and read, and another follows.
     fn closed_hour_let_go(&mut self) -> anyhow::Result<()> {
         self.report.line("case closed hour let go")?;
         let mut plan = small_plan(self.heap)?;

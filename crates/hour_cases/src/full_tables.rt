@@ -1,4 +1,4 @@
-// Full tables: one row past the last of each, and readings of all rows.
+// Full tables: rows past the last of each, and readings of all units and buyers.
 use crate::calls::{
     buyer, commit, competitive, correct, guaranteed, plant, put_aside, read_use, take_back,
 };

@@ -92,7 +92,7 @@ fn commitments(entries: &mut Vec<Entry>) -> Result<(), AllocError> {
     ])
 }
 
-// The first row that applies answers.
+// Entries to which two rows of refusals apply: the first is answered.
 fn against_two_rows(entries: &mut Vec<Entry>) -> Result<(), AllocError> {
     entries.extend(&[
         commit(0, 0, 0),
@@ -108,7 +108,7 @@ fn against_two_rows(entries: &mut Vec<Entry>) -> Result<(), AllocError> {
     ])
 }
 
-/// The entries of the hour.
+/// All entries of the hour.
 pub(crate) fn limit_entries(entries: &mut Vec<Entry>) -> Result<(), AllocError> {
     before_the_first_rows(entries)?;
     competitive_units(entries)?;

@@ -5,7 +5,6 @@ use book::{GuaranteedReading, Reading, UnitReading};
 use std::alloc::AllocError;
 use std::array;
 
-// No bound says that a closure may be called, so each function that takes one asks for it.
 // A reading in which these fields are set, and the others 0.
 fn with<R: Default + Drop, F: FnOnce(&mut R)>(set: F) -> R
     requires { F.IsAlwaysCallable set }
@@ -29,7 +28,8 @@ pub(crate) fn guaranteed_with<F: FnOnce(&mut GuaranteedReading)>(unit: u32, set:
     read_guaranteed(unit, with(set))
 }
 
-// There are 4 competitive and 7 guaranteed units, and 2 buyers.
+// Readings of units and buyers that are there, and of others: there are 4 competitive and 7 guaranteed units, and 2
+// buyers.
 fn by_number(readings: &mut Vec<Reading>) -> Result<(), AllocError> {
     for number in [0, 1, 2, 3, 4, 5, 7, 8] {
         readings.push(read_competitive(number, UnitReading::default()))?;
@@ -44,7 +44,7 @@ pub(crate) fn only<const N: usize>(place: usize, value: u32) -> [u32; N] {
     array::from_fn(|at| if at == place { value } else { 0 })
 }
 
-// One field at its limit, and then over it.
+// For each field a reading with it at its limit, and one with it over the limit.
 fn field_limits<R: Fn(usize, u32) -> Reading>(
     readings: &mut Vec<Reading>,
     kinds: &[Field],
@@ -59,7 +59,7 @@ fn field_limits<R: Fn(usize, u32) -> Reading>(
     Ok(())
 }
 
-// The lost energy covers any energy made under a technical limit.
+// A reading of one field; its lost energy covers any UL energy, so that only the field's own limit turns it down.
 fn competitive_limit(place: usize, value: u32) -> Reading {
     let mut reading = unit_reading(only(place, value));
     reading.energies.lost = reading.energies.lost.max(2_000_000);
@@ -70,7 +70,7 @@ fn guaranteed_limit(place: usize, value: u32) -> Reading {
     read_guaranteed(1, guaranteed_reading(only(place, value)))
 }
 
-// The energy made under a technical limit, and a buyer's use.
+// UL energy beside accepted and lost energy, and a buyer's use.
 fn other_limits(readings: &mut Vec<Reading>) -> Result<(), AllocError> {
     for limited in [10, 11] {
         readings.push(competitive_with(1, |r| {
@@ -90,7 +90,7 @@ fn other_limits(readings: &mut Vec<Reading>) -> Result<(), AllocError> {
     Ok(())
 }
 
-// The first row that applies answers.
+// Readings to which two rows of refusals apply: the first is answered.
 fn against_two_rows(readings: &mut Vec<Reading>) -> Result<(), AllocError> {
     readings.extend(&[
         competitive_with(5, |r| r.energies.net = 2_000_001),
@@ -120,7 +120,7 @@ fn against_two_rows(readings: &mut Vec<Reading>) -> Result<(), AllocError> {
     ])
 }
 
-/// Readings within the limits. There may be no buyer 2.
+/// Readings within the limits. The one of buyer 2 is refused where there is no such buyer.
 pub(crate) fn last_readings(readings: &mut Vec<Reading>) -> Result<(), AllocError> {
     readings.extend(&[
         competitive_with(1, |r| {
@@ -137,7 +137,7 @@ pub(crate) fn last_readings(readings: &mut Vec<Reading>) -> Result<(), AllocErro
     ])
 }
 
-/// The readings of the hour.
+/// All readings of the hour.
 pub(crate) fn limit_readings(readings: &mut Vec<Reading>) -> Result<(), AllocError> {
     by_number(readings)?;
     field_limits(readings, &COMPETITIVE_FIELDS, competitive_limit)?;

@@ -1,5 +1,5 @@
-// Hours whose answers and figures a second calculation gives: calls that are turned down, pseudo-random hours, and lists of
-// calls in whatever order.
+// Prints the answers and figures of hours that a second calculation gives too: calls that are turned down,
+// pseudo-random hours, and lists of calls in whatever order.
 #![tactic(auto)]
 
 mod calls;

@@ -25,7 +25,7 @@ const EQUAL_STEPS: [(usize, u32, u32); 11] = [
     (11, 1, 10_000_001),
 ];
 
-// A competitive unit to be added with its rows; no `Entry`, which may be of any other kind.
+// A competitive unit that is added with its rows.
 #[derive(Clone, Copy)]
 struct NewUnit {
     plant: u32,
@@ -42,7 +42,7 @@ fn new_unit(plant: u32, declared: u32, internal: u32) -> NewUnit {
 }
 
 impl Report {
-    // Whether what would make this is taken.
+    // Writes whether something was made, or the number of its refusal.
     fn taken<T: Drop, E: Into<UnitRefusal> + Drop>(
         &mut self,
         made: Result<T, E>,
@@ -94,7 +94,7 @@ impl Report {
         Ok(())
     }
 
-    // A unit whose rows are an offer of these steps.
+    // Adds a unit with the outcome of making an offer of these steps.
     fn priced_unit(
         &mut self,
         table: &mut Table,
@@ -110,7 +110,7 @@ impl Report {
         self.outcome(added.map(|(number, _)| number))
     }
 
-    // A unit with rows, with a refused number of steps, and with a refused price.
+    // Adds a unit with rows that were made, with a refused number of steps, and with a refused price.
     fn each_outcome(&mut self, table: &mut Table, unit: NewUnit) -> Result<(), AllocError> {
         self.priced_unit(table, unit, &[step(1, 5)])?;
         self.priced_unit(table, unit, &[])?;
@@ -138,7 +138,7 @@ impl Report {
         self.each_outcome(&mut table, new_unit(2, 5, 0))
     }
 
-    /// What is made before an hour, or with the outcome of making something else.
+    /// Makes headers, step lists and rates, and units with the outcome of making their rows.
     pub(crate) fn makings(&mut self) -> Result<(), AllocError> {
         self.headers()?;
         self.line("case step lists")?;

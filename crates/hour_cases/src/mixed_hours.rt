@@ -11,7 +11,7 @@ type PlanCall<'p, G, S> = HourCall<'p, SteppedOffer, G, SteppedOffer, SteppedCos
 
 type PlanTurn<'p, G, S> = Turn<'p, SteppedOffer, G, SteppedOffer, SteppedCost, S>;
 
-// Where a list of calls ends.
+// In which state a list of calls leaves the hour.
 #[derive(Clone, Copy, PartialEq)]
 enum End {
     Settled,
@@ -63,7 +63,7 @@ impl<G: Offer + Drop, S: Offer + Drop> Plan<G, S> {
         }
     }
 
-    // The first reading, the entries, and settling out of turn.
+    // The calls up to closing: a reading out of turn, the entries, and settling out of turn.
     fn push_open<'p>(&'p self, turns: &mut Vec<PlanTurn<'p, G, S>>) -> Result<(), AllocError> {
         push_readings(turns, &self.readings[..self.readings.len().min(1)])?;
         for entry in &self.entries {
@@ -72,7 +72,7 @@ impl<G: Offer + Drop, S: Offer + Drop> Plan<G, S> {
         push(turns, self.settle())
     }
 
-    // The first entry out of turn.
+    // An entry once the hour is closed, which is out of turn: the first one again.
     fn push_late_entry<'p>(
         &'p self,
         turns: &mut Vec<PlanTurn<'p, G, S>>,
@@ -83,7 +83,7 @@ impl<G: Offer + Drop, S: Offer + Drop> Plan<G, S> {
         Ok(())
     }
 
-    // Closing, an entry and a second closing without offers out of turn, and the readings.
+    // Closing, then an entry and a closing without offers out of turn, and the readings.
     fn push_closed<'p>(&'p self, turns: &mut Vec<PlanTurn<'p, G, S>>) -> Result<(), AllocError> {
         push(turns, self.close())?;
         self.push_late_entry(turns)?;

@@ -6,21 +6,28 @@ use crate::source::Source;
 use book::Reading;
 use std::alloc::AllocError;
 
-/// The kinds of a reading's fields.
+/// The kinds of a reading's fields, by what is drawn for them.
 #[derive(Clone, Copy)]
 pub enum Field {
+    /// An energy below `Source::energy`.
     Energy,
-    /// An energy of at most half as much.
+    /// An energy below half of `Source::energy`.
     Half,
-    /// A small energy, often 0.
+    /// An energy below an eighth of `Source::energy`, often 0.
     Part,
+    /// α, 0 or 1.
     Mark,
+    /// A maintenance day, 0 to 3.
     Day,
+    /// An exit minute, often about 780, past which day 2 sets the maintenance mark.
     Minute,
+    /// An opportunity payment in rial, often 0.
     Gain,
+    /// A penalty in rial, often 0.
     Penalty,
 }
 
+/// The fields of a competitive reading, in the order of docs/hour.md.
 pub const COMPETITIVE_FIELDS: [Field; 17] = [
     Field::Energy,
     Field::Half,
@@ -41,6 +48,7 @@ pub const COMPETITIVE_FIELDS: [Field; 17] = [
     Field::Penalty,
 ];
 
+/// The fields of a guaranteed reading, in the order of docs/hour.md.
 pub const GUARANTEED_FIELDS: [Field; 9] = [
     Field::Energy,
     Field::Energy,
@@ -54,7 +62,7 @@ pub const GUARANTEED_FIELDS: [Field; 9] = [
 ];
 
 impl Field {
-    /// The most that a reading may have.
+    /// The limit of such a field; a greater number is refused.
     pub(crate) fn most(self) -> u32
         ensures { result ≤ 100_000_000 }
     {
@@ -82,7 +90,7 @@ impl Field {
 }
 
 impl Source {
-    /// Most units and buyers are read once, and then some again, or such as are not there.
+    /// Readings of most units and buyers; then up to four that read one again, or one that is not there.
     pub(crate) fn draw_readings(&mut self) -> Result<Vec<Reading>, AllocError> {
         let mut readings = Vec::new(self.heap);
         self.read_most(
@@ -102,7 +110,7 @@ impl Source {
         Ok(readings)
     }
 
-    // No bound says that `read` may be called, so each function that takes it asks for that.
+    // Reads about seven of eight units or buyers, by rising number.
     fn read_most<R: Fn(&mut Source, u32) -> Reading>(
         &mut self,
         readings: &mut Vec<Reading>,
@@ -119,7 +127,7 @@ impl Source {
         Ok(())
     }
 
-    // A reading of what was read before, or was never there.
+    // A reading of any unit or buyer, or of one that is not there.
     fn any_reading(&mut self) -> Reading {
         match self.random.below(3) {
             0 => self.read_one(self.competitive, Source::any_competitive_reading),
@@ -128,7 +136,7 @@ impl Source {
         }
     }
 
-    // One of so many, or the one past them.
+    // A reading of one of so many, of the one past them, or of number 0.
     fn read_one<R: Fn(&mut Source, u32) -> Reading>(&mut self, count: u32, read: R) -> Reading
         requires { R.IsAlwaysCallable read }
     {
@@ -147,7 +155,7 @@ impl Source {
         )
     }
 
-    // One reading in twelve has a field over its limit.
+    // The fields of a reading. In one of twelve a field is one over its limit.
     fn draw_fields<const N: usize>(&mut self, kinds: [Field; N]) -> [u32; N] {
         let mut fields = kinds.map(|kind| kind.draw(self));
         if self.random.below(12) == 0 {

@@ -34,8 +34,6 @@ impl Row {
         })
     }
 
-    // One for a plant and a buyer would take the question and the case from its caller. The hour and a number are what the
-    // hour is asked with.
     fn plant(hour: &SettledHour, number: u32) -> Result<Row, BookRefusal> {
         let figures = hour.plant(number)?;
         Ok(Row::Plant { number, figures })
@@ -70,6 +68,7 @@ impl Display for Row {
 /// What the cases answer, a line for each answer.
 #[derive(Drop)]
 pub struct Report {
+    /// The lines, each with its line feed.
     pub text: String,
 }
 
@@ -84,7 +83,7 @@ impl Report {
         writeln!(self.text, "{line}")
     }
 
-    /// What a call answers, or the number of its refusal.
+    /// Writes what a call answers, or `R` and the number of its refusal.
     pub(crate) fn outcome<L: Display + Drop, E: Into<UnitRefusal> + Drop>(
         &mut self,
         outcome: Result<L, E>,
@@ -105,7 +104,7 @@ impl Report {
         Ok(())
     }
 
-    // The rows from number 1 on, up to the first that is not there.
+    // Writes the rows from number 1 on, up to the first that is not there.
     fn rows<F: Fn(u32) -> Result<Row, BookRefusal>>(&mut self, row: F) -> Result<(), AllocError>
         requires { F.IsAlwaysCallable row }
     {
@@ -115,7 +114,7 @@ impl Report {
         Ok(())
     }
 
-    // All figures of the hour.
+    // Writes all figures of the hour, as its listing has them.
     fn listing(&mut self, hour: &SettledHour) -> Result<(), AllocError> {
         self.rows(|number| Row::unit(hour, 1, number))?;
         self.rows(|number| Row::unit(hour, 2, number))?;
@@ -124,7 +123,7 @@ impl Report {
         writeln!(self.text, "H {}", hour.hour())
     }
 
-    // What the hour answers about a number: the plant, the buyer, and the unit of groups 0 to 3.
+    // Writes what the hour answers about a number: the plant, the buyer, and the unit of groups 0 to 3.
     fn questions(&mut self, hour: &SettledHour, number: u32) -> Result<(), AllocError> {
         self.outcome(Row::plant(hour, number))?;
         self.outcome(Row::buyer(hour, number))?;
@@ -134,7 +133,7 @@ impl Report {
         Ok(())
     }
 
-    /// The listing of a settled hour, and what it answers about these numbers. The hour is let go.
+    /// Writes the listing of a settled hour and what it answers about these numbers, and releases the hour.
     pub(crate) fn settled(&mut self, hour: SettledHour, asked: &[u32]) -> Result<(), AllocError> {
         self.listing(&hour)?;
         for number in asked {

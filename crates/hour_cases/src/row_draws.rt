@@ -7,6 +7,7 @@ use std::alloc::AllocError;
 
 /// A row that closing or settling takes for a unit.
 pub trait Drawn: Drop {
+    /// Draws one.
     fn draw(source: &mut Source) -> anyhow::Result<Self>;
 }
 
@@ -41,12 +42,10 @@ impl<O: Drawn, C: Drawn> Drawn for PriceRow<O, C> {
 }
 
 impl Source {
-    // One to four steps, with these prices. Those of `split_cases` come from another source in other sizes: one for both
-    // would need a crate of its own, with `curves` below it.
+    // One to four steps, each with the next of these prices.
     fn steps<F: FnMut(&mut Source) -> u32>(&mut self, mut price: F) -> Result<Vec<Step>, AllocError>
         requires { F.IsAlwaysCallable price }
     {
-        // In a chain, what `collect` asks stays open: that `price`, which changes at each call, may be called again.
         let mut steps = Vec::new(self.heap);
         for _ in 0..self.random.below(4) + 1 {
             let width = self.random.below(self.energy / 3).saturating_add(1);
@@ -70,7 +69,7 @@ impl Source {
         self.steps(Source::any_price)
     }
 
-    // How many rows a group has: too few, or for the units that are added late too.
+    // How many rows a group of so many units has: now and then too few, else enough for a late unit too.
     fn row_count(&mut self, units: u32) -> u32 {
         match self.random.below(4) {
             0 => self.random.below(units.saturating_add(1)),
@@ -79,7 +78,7 @@ impl Source {
         }
     }
 
-    /// The rows of a group of so many units.
+    /// Draws the rows of a group of so many units.
     pub(crate) fn draw_rows<R: Drawn>(&mut self, units: u32) -> anyhow::Result<Vec<R>> {
         let heap = self.heap;
         let count = self.row_count(units);

@@ -5,25 +5,35 @@ use book::{Book, Calls, ClosedHour, Entry, Header, OpenHour, PriceRow, Reading, 
 use curves::{Offer, SteppedCost, SteppedOffer};
 use std::alloc::{AllocError, Global};
 
-/// The calls of an hour, the rows that closing and settling take, and the numbers that the settled hour is asked about.
-// Each list stands on its own: a call takes each as a slice.
+/// The calls of an hour, and the numbers that the settled hour is asked about.
 #[derive(Drop)]
 pub struct Plan<G, S> {
+    /// The header that the hour is opened with.
     pub header: Header,
+    /// The entries, in turn.
     pub entries: Vec<Entry>,
+    /// The competitive units' offers at closing.
     pub offers: Vec<SteppedOffer>,
+    /// The guaranteed units' offers at closing.
     pub guaranteed: Vec<G>,
+    /// The readings, in turn.
     pub readings: Vec<Reading>,
+    /// The competitive units' price rows at settling.
     pub rows: Vec<PriceRow<SteppedOffer, SteppedCost>>,
+    /// The guaranteed units' offers at settling.
     pub paid: Vec<S>,
+    /// The numbers of plants, buyers and units that are asked about.
     pub asked: Vec<u32>,
 }
 
 /// The book that all hours of the cases are settled on, and what they answer.
 #[derive(Drop)]
 pub struct Cases {
+    /// Where lists and the report stand.
     pub heap: Global,
+    /// The book of all hours, one after another.
     pub book: Book,
+    /// What was answered so far.
     pub report: Report,
 }
 
@@ -68,7 +78,6 @@ pub(crate) fn read_by_name(hour: &mut ClosedHour, reading: Reading) -> Answer {
     }
 }
 
-// No bound says that `enter` and `read` may be called, so each function that takes one asks for it.
 impl<G: Offer + Drop, S: Offer + Drop> Plan<G, S> {
     /// Opens the hour and makes its entries in turn.
     pub(crate) fn opened<'b, E: Fn(&mut OpenHour, Entry) -> Answer>(

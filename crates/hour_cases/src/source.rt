@@ -1,4 +1,4 @@
-// Where the calls and the rows of a pseudo-random hour are drawn from.
+// What the calls and the rows of a pseudo-random hour are drawn from.
 use book::{BookRefusal, Header};
 use comparing::Random;
 use std::alloc::Global;
@@ -9,22 +9,27 @@ const SIZES: [u32; 16] = [0, 1, 1, 1, 1, 2, 2, 2, 2, 3, 3, 3, 3, 4, 4, 4];
 /// The numbers that an hour's calls are drawn by.
 #[derive(Drop)]
 pub struct Source {
+    /// Where the lists that are drawn stand.
     pub heap: Global,
+    /// The pseudo-random numbers.
     pub random: Random,
-    /// Energies are below this.
+    /// Energies are below this, in kWh.
     pub energy: u32,
-    /// A price is at most 8 times this.
+    /// A price is 0 to 8 times this, in rial per MWh.
     pub price: u32,
-    /// Opportunity payments are below this.
+    /// Opportunity payments are below this, in rial.
     pub gain: u32,
-    /// Penalties are below this.
+    /// Penalties are below this, in rial.
     pub penalty: u32,
-    /// The tariff's rate.
+    /// The tariff's rate, in rial per MWh.
     pub rate: u32,
+    /// How many plants there are.
     pub plants: u32,
+    /// How many buyers there are.
     pub buyers: u32,
-    /// How many units of group 1 are added, but for late ones.
+    /// How many competitive units are added, but for late ones.
     pub competitive: u32,
+    /// How many guaranteed units are added, but for late ones.
     pub guaranteed: u32,
 }
 
@@ -65,13 +70,13 @@ impl Source {
         Header::new(ceiling, coefficient, base, saving, self.rate)
     }
 
-    /// A price that steps and rates have.
+    /// A price of a step, or a rate.
     pub(crate) fn any_price(&mut self) -> u32 {
         any_multiple(&mut self.random, self.price)
     }
 }
 
-// Up to 8 times this price.
+// 0 to 8 times this price.
 fn any_multiple(random: &mut Random, price: u32) -> u32 {
     random.below(9).saturating_mul(price)
 }

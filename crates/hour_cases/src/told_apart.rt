@@ -1,5 +1,5 @@
-// Hours that tell apart what a slip would mix up: one group full and the other not, four different counts, and put aside,
-// correct and take back in several orders, with units and buyers that are read again.
+// Hours in which mixed-up tables, numbers or orders change an answer: one group full and the other not, four different
+// counts, and put aside, correct and take back in several orders, with units and buyers that are read again.
 use crate::calls::{
     buyer, commit, competitive, correct, guaranteed, plant, put_aside, read_use, step, take_back,
 };
@@ -21,8 +21,8 @@ fn full_group(entries: &mut Vec<Entry>, one: Entry, other: Entry) -> Result<(), 
     entries.extend(&[other, one, other])
 }
 
-// Calls that name a plant, a buyer and a unit of each group. Where the plant or the buyer is there, a later row turns the
-// call down.
+// Calls that name a plant, a buyer and a unit of each group. Where the plant or the buyer is there, a later row turns
+// the call down.
 fn naming_to(entries: &mut Vec<Entry>, most: u32) -> Result<(), AllocError> {
     for number in 0..=most {
         entries.extend(&[
@@ -41,7 +41,7 @@ fn naming_to(entries: &mut Vec<Entry>, most: u32) -> Result<(), AllocError> {
     Ok(())
 }
 
-// In turn each of the tables is the longest.
+// Entries by which each of four tables in turn is the longest; in between, calls name each number.
 fn counted_entries(entries: &mut Vec<Entry>) -> Result<(), AllocError> {
     entries.extend(&[plant(0), plant(100), plant(200), plant(300)])?;
     entries.extend(&[buyer(0), buyer(200), buyer(400)])?;
@@ -69,7 +69,7 @@ fn counted_entries(entries: &mut Vec<Entry>) -> Result<(), AllocError> {
     ])
 }
 
-// Of the numbers 0 to 8, in each of the tables.
+// Readings of the numbers 0 to 8 in each table.
 fn counted_readings(readings: &mut Vec<Reading>) -> Result<(), AllocError> {
     for number in 0..9 {
         readings.push(competitive_with(number, |r| {
@@ -110,7 +110,7 @@ fn added(entries: &mut Vec<Entry>) -> Result<(), AllocError> {
     ])
 }
 
-// Unit 4 stays aside.
+// Changes after which competitive unit 4 is aside.
 fn competitive_changes(entries: &mut Vec<Entry>) -> Result<(), AllocError> {
     entries.extend(&[
         put_aside(1, 1),
@@ -133,7 +133,7 @@ fn competitive_changes(entries: &mut Vec<Entry>) -> Result<(), AllocError> {
     ])
 }
 
-// Unit 6 stays aside. The last four are turned down.
+// Changes after which guaranteed unit 6 is aside. The last four are turned down.
 fn guaranteed_changes(entries: &mut Vec<Entry>) -> Result<(), AllocError> {
     entries.extend(&[
         put_aside(2, 2),
@@ -163,8 +163,7 @@ fn sold(entries: &mut Vec<Entry>) -> Result<(), AllocError> {
     ])
 }
 
-// The reading of a competitive unit: net, accepted and lost energy, energy made under a technical limit, active energy and
-// opportunity payment.
+// The reading of a competitive unit: net, accepted, lost and UL energy, P_Act and the opportunity payment.
 fn produced(unit: u32, energies: [u32; 4], p_act: u32, opportunity: u32) -> Reading {
     let [net, accepted, lost, limited] = energies;
     competitive_with(unit, |r| {
@@ -177,7 +176,7 @@ fn produced(unit: u32, energies: [u32; 4], p_act: u32, opportunity: u32) -> Read
     })
 }
 
-// The reading of a guaranteed unit: net and active energy.
+// The reading of a guaranteed unit: net energy and P_Act.
 fn measured(unit: u32, net: u32, p_act: u32) -> Reading {
     guaranteed_with(unit, |r| {
         r.net = net;
@@ -185,7 +184,7 @@ fn measured(unit: u32, net: u32, p_act: u32) -> Reading {
     })
 }
 
-// These are replaced.
+// Readings that later ones replace.
 fn read_first(readings: &mut Vec<Reading>) -> Result<(), AllocError> {
     readings.extend(&[
         measured(1, 50, 10),
@@ -247,7 +246,7 @@ fn uses_last(readings: &mut Vec<Reading>) -> Result<(), AllocError> {
     ])
 }
 
-// These replace nothing.
+// Readings that are turned down, and so replace nothing.
 fn turned_down(readings: &mut Vec<Reading>) -> Result<(), AllocError> {
     readings.extend(&[
         guaranteed_with(1, |r| {
@@ -270,7 +269,7 @@ fn unit_row(offer: &[Step], cost: &[Step]) -> Result<UnitRow, CurveRefusal> {
     })
 }
 
-// Kilowatt-hours 63, 69, 70, 71, 72 and 73 have a price of their own.
+// By the offer kWh 63, 69, 70, 71, 72 and 73 have a price of their own.
 fn steep_row() -> Result<UnitRow, CurveRefusal> {
     let offer = [
         step(62, 100),
@@ -338,7 +337,7 @@ impl Cases {
         self.run_at_once(&plan)
     }
 
-    /// The hours that tell apart what a slip would mix up.
+    /// Runs the hours in which mixed-up tables, numbers or orders change an answer.
     pub(crate) fn told_apart(&mut self) -> anyhow::Result<()> {
         let (one, two) = (competitive(1, 5, 0), guaranteed(1, 5, 5, 0, 0));
         self.report.line("case competitive units full")?;

@@ -10,7 +10,7 @@ use Rattle.book.specs.declared.calls.HourCall.{HourCall}
 use Rattle.book.specs.declared.calls.Turn.{Turn}
 use Rattle.book.specs.declared.run.Calls.{Calls}
 
--- of lists that are in the order of an hour
+-- what lists of entries and readings leave of a closed hour, and with price rows of a settled one
 abbrev pub ClosedLeft : {O G : Type 0} → (O → Prices) → (G → Prices) → Calls O G → Table → Type 0
 ClosedLeft prices1 prices2 calls t =
     ClosedTable (offers_in prices1 prices2 calls) (entries_in calls) (readings_in calls) t
@@ -19,11 +19,11 @@ abbrev pub SettledLeft : {O G : Type 0} → (O → Prices) → (G → Prices) �
 SettledLeft prices1 prices2 calls header rows t =
     SettledTable header (offers_in prices1 prices2 calls) rows (entries_in calls) (readings_in calls) t
 
--- of a list in whatever order
+-- the state that a list of calls in whatever order leads to
 abbrev pub state_of : {O G P C H : Type 0} → (HourCall O G P C H → Call) → List (Turn O G P C H) → State
 state_of by turns = state_after (map (λ turn. by turn.call) turns) (Open [])
 
--- of a settled hour nothing is known then
+-- what an hour in a state leaves; of a settled one that such a list led to nothing is said
 abbrev pub Left : Header → State → Table → Type 0
 Left header (Open h) t = OpenTable h t
 Left header (Closed offers h rs) t = ClosedTable offers h rs t

@@ -13,12 +13,12 @@ use Rattle.book.specs.Taken.{next_priced}
 use Rattle.book.specs.declared.settled.SettledHour.{SettledHour}
 use Rattle.hour_client.specs.declared.sales.Sale.{Sale}
 
--- a plant, a buyer, a unit with what its rows came to, and the entries of a list
+-- the accepted ones of a plant, a buyer, a unit with the outcome of making its rows, and the entries of a list
 abbrev pub entries_of : {R : Type 0} → Result R CurveRefusal → List Entry → List Entry
 entries_of unit entries =
     accepted (next_priced 1 40 0 unit (next_history (AddBuyer 0) (next_history (AddPlant 0) []))) entries
 
--- the buyer's use, and the readings of a list
+-- the accepted ones of the buyer's use and the readings of a list
 abbrev pub readings_of : List Entry → ℕ → List Reading → List Reading
 readings_of h used readings = accepted_readings (view_in h) (next_readings (view_in h) (Use 1 used) []) readings
 

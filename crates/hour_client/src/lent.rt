@@ -1,4 +1,4 @@
-// What a book holds once its hour is let go: what the hour held.
+// What a book holds once its hour is let go or released: what the hour held.
 ghost use Rattle.std.specs.Prelude.{◌≡◌};
 ghost use Rattle.book.specs.Hours.{rows_by, OpenTable};
 ghost use Rattle.book.specs.Law.{entered};
@@ -12,7 +12,7 @@ use book::{
 };
 use curves::{Curve, Offer};
 
-/// Enters a list, and lets the hour go.
+/// Enters a list of entries, and lets the open hour go: the book holds the accepted entries.
 pub(crate) fn entered(book: &mut Book, header: Header, entries: &[Entry])
     ensures { OpenTable (entered entries.now) book.new.table }
 {
@@ -20,7 +20,7 @@ pub(crate) fn entered(book: &mut Book, header: Header, entries: &[Entry])
     hour.enter_all(entries, &mut []);
 }
 
-// Makes the calls of a closed hour one by one.
+// Makes the calls of a closed hour: opening, the entries, closing and the readings.
 fn close<'b, O: Offer, G: Offer>(
     book: &'b mut Book,
     header: Header,
@@ -36,7 +36,7 @@ fn close<'b, O: Offer, G: Offer>(
     closed
 }
 
-/// Closes an hour by its calls, and lets it go.
+/// Makes the calls of a closed hour one after another, and lets the hour go.
 pub(crate) fn closed_by_calls<O: Offer, G: Offer>(
     book: &mut Book,
     header: Header,
@@ -47,14 +47,14 @@ pub(crate) fn closed_by_calls<O: Offer, G: Offer>(
     let _hour = close(book, header, calls);
 }
 
-/// Makes the list of calls of a closed hour, and lets the hour go.
+/// Makes the calls of a closed hour by `run_closed`, and lets the hour go.
 pub(crate) fn closed<O: Offer, G: Offer>(book: &mut Book, header: Header, calls: &Calls<O, G>)
     ensures { ClosedLeft O.Curve.prices G.Curve.prices calls.now book.new.table }
 {
     let _hour = run_closed(book, header, calls, &mut [], &mut []);
 }
 
-/// Makes the list of calls of a settled hour, and lets the hour go.
+/// Makes the calls of a settled hour by `run_settled`, and releases the hour.
 pub(crate) fn settled<O: Offer, G: Offer, P: Offer, C: Curve, H: Offer>(
     book: &mut Book,
     header: Header,
@@ -68,7 +68,7 @@ pub(crate) fn settled<O: Offer, G: Offer, P: Offer, C: Curve, H: Offer>(
     hour.release();
 }
 
-/// Makes a list of calls, and lets the hour go.
+/// Makes a list of calls in whatever order, and lets the hour go or releases it.
 pub(crate) fn made<O: Offer, G: Offer, P: Offer, C: Curve, H: Offer>(
     book: &mut Book,
     header: Header,

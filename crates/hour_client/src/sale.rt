@@ -1,4 +1,4 @@
-// One plant without units sells 50 kWh, so that all of it is support.
+// One plant without units sells 50 kWh, all of which is run support.
 use book::{Book, BookRefusal, ClosedHour, Header, OpenHour, PriceRow};
 use curves::Tariff;
 
@@ -6,7 +6,7 @@ const NO_OFFERS: [Tariff; 0] = [];
 
 const NO_ROWS: [PriceRow<Tariff, Tariff>; 0] = [];
 
-// Sells ahead.
+// Enters a plant and a buyer, and commits 50 kWh of the plant to the buyer.
 fn sell(hour: &mut OpenHour) -> Result<(), BookRefusal> {
     hour.add_plant(0)?;
     hour.add_buyer(0)?;
@@ -19,7 +19,7 @@ fn read(hour: &mut ClosedHour) -> Result<(), BookRefusal> {
     Ok(())
 }
 
-/// What the plant's support costs.
+/// What the plant's support costs, in thousandths of a rial.
 pub(crate) fn support_cost(book: &mut Book, header: Header) -> Result<u128, BookRefusal> {
     let mut open = book.open(header);
     sell(&mut open)?;

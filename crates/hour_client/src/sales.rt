@@ -8,12 +8,19 @@ use curves::{Curve, CurveRefusal, Offer};
 /// A sale of one plant: what is entered after its unit, and what the hour is closed, read and settled by.
 #[derive(Clone, Copy)]
 pub(crate) struct Sale<'s, O, G, P, C, H> {
+    /// What is entered after the plant, the buyer and the unit.
     pub(crate) entries: &'s [Entry],
+    /// The competitive units' offers at closing.
     pub(crate) offers: &'s [O],
+    /// The guaranteed units' offers at closing.
     pub(crate) guaranteed: &'s [G],
+    /// What buyer 1 uses, in kWh.
     pub(crate) used: u32,
+    /// The readings after that use.
     pub(crate) readings: &'s [Reading],
+    /// The competitive units' price rows at settling.
     pub(crate) rows: &'s [PriceRow<P, C>],
+    /// The guaranteed units' offers at settling.
     pub(crate) row_offers: &'s [H],
 }
 

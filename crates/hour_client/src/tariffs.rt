@@ -1,4 +1,4 @@
-// Sales by tariffs.
+// Hours whose offers and cost curves are all tariffs.
 use crate::lent::{closed, closed_by_calls, entered, made, settled};
 use crate::sales::{Sale, sell};
 use book::{
@@ -26,7 +26,7 @@ const USE: [Reading; 1] = [Reading::Use {
     used: 300,
 }];
 
-/// The figures of a plant that sells 50 kWh, with one unit of 40.
+/// The figures of a plant with one unit of 40 kWh that sells 50.
 pub(crate) fn plant(book: &mut Book, header: Header) -> Result<PlantFigures, BookRefusal> {
     let sale = Sale {
         entries: &COMMITMENT,
@@ -43,7 +43,7 @@ pub(crate) fn plant(book: &mut Book, header: Header) -> Result<PlantFigures, Boo
     figures
 }
 
-/// Makes hours whose book is looked at when they are let go.
+/// Makes an hour by each of the calls of `lent`, on one book.
 pub(crate) fn let_go(book: &mut Book, header: Header) {
     let calls = Calls {
         entries: &COMMITMENT,

@@ -1,4 +1,4 @@
--- A step of the reader: what it finds is spelled so, and what is spelled so it finds.
+-- One record is read: the words passed are those of what is found, and what is spelled next is found.
 use Rattle.std.proofs.Common.{◌≡◌, ℕ, List, ◌++◌, Option, Some, None, Ok, Err, Result, is_some, refl, sym, ap, subst, ◌∙◌}
 use Rattle.std.proofs.lemmas.Bool.{true≢false}
 use Rattle.hourfile.specs.Format.{Plain, First, Writable, Spelt, record_words, first}

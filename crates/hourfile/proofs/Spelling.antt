@@ -35,7 +35,7 @@ headed_spelt head rest f h =
     } in
     subst (λ x. Spelt (head ∷ rest) x) (ap (λ q. let x : First = record { found = q; rest = drop n rest } in x) e.1 ∙ c) spelt
 
--- a record was found
+-- the record that was found, if one was
 abbrev found : Result (Option First) Cause → Option First
 found (Ok o) = o
 found (Err cause) = None
@@ -48,7 +48,7 @@ pub first_spelt : (ws : List ℕ) (f : First) → first ws ≡ Ok (Some f) → S
 first_spelt [] f h = absurd (true≢false (sym (ap (λ r. is_some (found r)) h)))
 first_spelt (head ∷ rest) f h = headed_spelt head rest f (of_whole (headed_record head rest) f h)
 
--- the record of a head that says as many values as follow it
+-- a record is read from its own words: its head counts the values that follow it
 headed_back : (r : Plain) (rest : List ℕ) → Writable r → headed_record (r.kind * 268435456 + length r.values) (r.values ++ rest) ≡ Some (record { found = r; rest = rest })
 headed_back r rest w =
     let head = r.kind * 268435456 + length r.values in

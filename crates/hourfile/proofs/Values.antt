@@ -8,7 +8,7 @@ pub all_read : (chunks : List (List ℕ)) → list_all (λ w. is_value (word w))
 all_read [] = refl
 all_read (w ∷ ws) = ap (λ b. is_value (word w) && b) (all_read ws)
 
--- a part of the words are the words of the part
+-- the words of a part are a part of the words
 pub words_take : (n : ℕ) (chunks : List (List ℕ)) → take n (words chunks) ≡ words (take n chunks)
 words_take n chunks = take-map word n chunks
 

@@ -19,7 +19,7 @@ change_of r =
     (cond (r.kind == 8) (Some (PutAside (v 0) (v 1)))
     (cond (r.kind == 9) (Some (TakeBack (v 0) (v 1))) None))
 
--- the entry of a record of kinds 2 and 4 to 9; that of kind 3 comes with its rows
+-- the entry of a record of kinds 2 and 4 to 9; a unit of kind 3 is added with its rows
 abbrev pub entry_of : Plain → Option Entry
 entry_of r =
     let v = value_at r.values in
@@ -68,7 +68,7 @@ reading_of r =
     (cond (r.kind == 12) (Some (Guaranteed (v 0) (record { net = v 1; control = control_at r.values 2 })))
     (cond (r.kind == 13) (Some (Use (v 0) (v 1))) None))
 
--- the steps of some values: two values for each, its width and its price
+-- the steps of a list of values: two values for each, its width and its price
 abbrev pub step_at : List ℕ → ℕ → Step
 step_at values i = record { width = value_at values (2 * i); price = value_at values (2 * i + 1) }
 

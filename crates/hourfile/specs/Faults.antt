@@ -9,6 +9,7 @@ use Rattle.hourfile.specs.declared.faults.Cause.{Cause}
 use Rattle.hourfile.specs.declared.faults.Cause.TheVariants.{Ended, ShortBuffer, Length, Malformed, Misplaced, Book, Steps}
 use Rattle.hourfile.specs.declared.faults.FileFault.{FileFault}
 
+-- the number of a fault, or of the refusal that it is
 abbrev pub cause_number : Cause → ℕ
 cause_number Ended = 12
 cause_number ShortBuffer = 13
@@ -18,7 +19,7 @@ cause_number Misplaced = 16
 cause_number (Book refusal) = refusal_number refusal
 cause_number (Steps refusal) = steps_number refusal
 
--- the letters of the layers: B for the book, O for step lists, F for the file
+-- the letter of the layer that finds a fault: B the book, O step lists, F the file
 abbrev pub cause_layer : Cause → ℕ
 cause_layer Ended = 70
 cause_layer ShortBuffer = 70

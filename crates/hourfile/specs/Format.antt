@@ -47,16 +47,18 @@ fixed_count kind =
     (cond (kind == 13) (Some 2)
     (cond (kind == 14) (Some 0) None))))))))))))
 
--- The values of a competitive unit: plant, gross, ρ and n, then n steps and the steps of the cost curve, two values each.
+-- The values of a competitive unit: plant, gross, ρ and n, then n steps and the steps of the cost curve, two values
+-- each.
 abbrev pub unit_fits : List ℕ → Bool
 unit_fits values =
     nat_le 4 (length values) && (length values % 2 == 0 && nat_le (2 * value_at values 3) (length values - 4))
 
--- the count of values is that of the kind
+-- a count of values is the one that the kind has, if that is fixed
 abbrev pub count_fits : ℕ → Option ℕ → Bool
 count_fits count None = false
 count_fits count (Some n) = count == n
 
+-- the values are as many as the record's kind asks
 abbrev pub fits : Plain → Bool
 fits r = cond (r.kind == 3) (unit_fits r.values) (count_fits (length r.values) (fixed_count r.kind))
 
@@ -86,7 +88,7 @@ headed_record head rest =
     (option_map (λ found. record { found = found; rest = drop (count_of head) rest }) (record_of (kind_of head) (take (count_of head) rest)))
     None
 
--- What stands first in some words: nothing at their end, a record, or what is none.
+-- What stands first in some words: nothing at their end, a record, or what is malformed.
 abbrev pub first : List ℕ → Result (Option First) Cause
 first [] = Ok None
 first (head ∷ rest) = or_malformed (headed_record head rest)
@@ -99,13 +101,13 @@ view_headed x = record { found = plain x.0; rest = words x.1.now }
 abbrev pub record_words : Plain → List ℕ
 record_words r = (r.kind * 268435456 + length r.values) ∷ r.values
 
--- what can stand in a file
+-- a record that can stand in a file: each value is one, and they are as many as its kind asks and a head can count
 pub record Writable (r : Plain) : Type 0 where
   pub values : all_values r.values ≡ true
   pub shape : fits r ≡ true
   pub few : length r.values < 268435456
 
--- some words are those of a record and the words after it
+-- some words are those of a record that can stand in a file, and the words after it
 pub record Spelt (ws : List ℕ) (f : First) : Type 0 where
   pub words : ws ≡ record_words f.found ++ f.rest
   pub writable : Writable f.found

@@ -50,7 +50,7 @@ view_next (Err fault) = Err fault
 abbrev pub file_words : List ℕ → List ℕ
 file_words bytes = words (first_chunks 4 (length bytes / 4) bytes)
 
--- a file is read from its first word on; one of another length than whole words, or too long, is not
+-- a file is read from its first word on; one that isn't made of whole words, or is too long, is not
 abbrev pub start : List ℕ → Result Rest FileFault
 start bytes =
     cond (nat_lt 65536 (length bytes) || not (length bytes % 4 == 0))

@@ -21,7 +21,7 @@ count_of w = w % 268435456
 abbrev pub is_value : ℕ → Bool
 is_value w = kind_of w == 0
 
--- the value at a place of a record's values
+-- the value at a place of a record's values; 0 past their end
 abbrev pub value_at : List ℕ → ℕ → ℕ
 value_at values i = slice_index values i
 

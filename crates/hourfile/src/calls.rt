@@ -49,7 +49,8 @@ fn unit_reading(values: &[Word]) -> UnitReading
 }
 
 impl Record<'_> {
-    /// The entry that the record stands for, if it is one. That of a competitive unit comes with its rows.
+    /// The entry of a record of kind 2 or 4 to 9; none for any other. A competitive unit (kind 3) is added with its two
+    /// step lists, which `stepped` reads.
     pub fn entry(&self) -> Option<Entry>
         ensures { result ≡ entry_of (plain self.now) }
     {
@@ -77,7 +78,7 @@ impl Record<'_> {
         Some(entry)
     }
 
-    // The change of a unit that the record stands for, if it is one.
+    // The entry of a record of kind 7 to 9, which changes a unit.
     fn change(&self) -> Option<Entry>
         ensures { result ≡ change_of (plain self.now) }
     {
@@ -100,7 +101,7 @@ impl Record<'_> {
         Some(entry)
     }
 
-    /// The reading that the record stands for, if it is one.
+    /// The reading of a record of kind 11 to 13, with its values as they stand; none for any other.
     pub fn reading(&self) -> Option<Reading>
         ensures { result ≡ reading_of (plain self.now) }
     {

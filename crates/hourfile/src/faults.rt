@@ -8,32 +8,37 @@ use std::error::Error;
 use std::fmt;
 use table::{BookRefusal, UnitRefusal};
 
-/// What is wrong.
+/// What is wrong with an hour file, without the place. The numbers are those of docs/refusals.md.
 #[derive(Clone, Copy, Debug, PartialEq)]
 pub enum Cause {
-    /// The file ends before settle.
+    /// 12: the records end, and the hour isn't settled.
     Ended,
-    /// The output buffer is shorter than the listing.
+    /// 13: the caller's buffer has too little room for the listing.
     ShortBuffer,
-    /// The file's length is not a multiple of four, or too great.
+    /// 14: the file has over 65,536 bytes, or isn't made of whole words.
     Length,
-    /// What stands there is no whole record.
+    /// 15: no whole record stands there: it is cut off, has no kind from 1 to 14, or not the count of its kind.
     Malformed,
-    /// A record stands where it may not.
+    /// 16: a whole record that may not stand there, such as a reading before close.
     Misplaced,
+    /// 1 to 7 and 9 to 11: the book refuses the record's call.
     Book(BookRefusal),
+    /// 8 or 9: a step list of a competitive unit is refused.
     Steps(CurveRefusal),
 }
 
-/// What is wrong, and the place of its record in bytes.
+/// A fault of an hour file: what is wrong, and where.
 #[derive(Clone, Copy, Debug, PartialEq)]
 pub struct FileFault {
+    /// What is wrong.
     pub cause: Cause,
+    /// Where, in bytes from the file's start: the record's first byte, or that of a value in a head's place; for 12 and
+    /// 13 the file's length, for 14 it is 0.
     pub place: u32,
 }
 
 impl Cause {
-    /// The number in the table of refusals and faults.
+    /// The number of the refusal or fault, 1 to 16.
     pub fn number(self) -> u32
         ensures { result ≡ cause_number self }
     {
@@ -48,7 +53,7 @@ impl Cause {
         }
     }
 
-    /// The letter of the layer that found it.
+    /// The layer that found it: `F` the file, `B` the book, `O` the step lists of offers and cost curves.
     pub fn layer(self) -> char
         ensures { result ≡ cause_layer self }
     {
@@ -61,7 +66,7 @@ impl Cause {
 }
 
 impl FileFault {
-    /// The fault at a place.
+    /// The same fault at another place, in bytes from the file's start.
     pub fn at(self, place: u32) -> FileFault
         ensures { result ≡ record { cause = self.cause; place = place } }
     {
@@ -69,7 +74,7 @@ impl FileFault {
     }
 }
 
-// The place is written into a fault by the reader, which knows it.
+// A cause alone says no place: it is 0 until the reader sets that of the record (`FileFault::at`).
 impl From<Cause> for FileFault {
     ghost from_gives = { λ cause fault. fault ≡ record { cause = cause; place = 0 } };
 
@@ -105,7 +110,7 @@ impl From<UnitRefusal> for FileFault {
     }
 }
 
-/// The fault as hourlist prints it.
+/// `R`, the layer, the number and the place with one blank between, as hourlist prints a fault; no line feed.
 impl fmt::Display for FileFault {
     ghost output = { λ fault. Some (fault_text fault) };
 

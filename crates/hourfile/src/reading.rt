@@ -10,17 +10,19 @@ use crate::reader::Reader;
 use crate::records::Record;
 use crate::words::{Word, count_of, kind_of};
 
-// The greatest length of a file.
+/// The most bytes of a file: 16,384 words of four bytes.
 pub const MOST_BYTES: usize = 65_536;
 
-/// A record and the place of its head in the file, in bytes.
+/// A record of a file, and where it stands.
 #[derive(Clone, Copy)]
 pub struct PlacedRecord<'f> {
+    /// The record. Its values are borrowed from the file.
     pub record: Record<'f>,
+    /// The place of the record's head, in bytes from the file's start.
     pub place: u32,
 }
 
-// Splits the record of a head off the words after it; nothing if it is none.
+// The record of a head, and the words behind the record; nothing if no whole record stands there.
 #[tactic(auto, using(crate::proofs::Values::words_take, crate::proofs::Values::words_drop, crate::proofs::Values::words_long))]
 fn headed<'f>(head: &Word, rest: &'f [Word]) -> Option<(Record<'f>, &'f [Word])>
     ensures record { option_map view_headed result ≡ headed_record (word head.now) (words rest.now) }
@@ -32,7 +34,7 @@ fn headed<'f>(head: &Word, rest: &'f [Word]) -> Option<(Record<'f>, &'f [Word])>
 }
 
 impl<'f> Reader<'f> {
-    /// Reads a file from its first word on, unless its length is none of a file's.
+    /// A reader at a file's first word. `Err` is 14 at place 0: the file has over 65,536 bytes, or ends within a word.
     pub fn new(file: &'f [u8]) -> Result<Reader<'f>, FileFault>
         ensures { view_start result ≡ start file.now }
     {
@@ -46,26 +48,27 @@ impl<'f> Reader<'f> {
         Ok(Reader { words, place: 0 })
     }
 
-    /// The place of the next word in bytes.
+    /// The place of the next word, in bytes from the file's start; at the end it is the file's length.
     pub fn place(&self) -> u32
         ensures { result ≡ (rest_of self.now).place }
     {
         self.place
     }
 
-    /// Reads the next record; none at the end of the file. What is no whole record is a fault at its place.
+    /// The next record; `Ok(None)` at the end of the file. `Err` is 15 at the place of what is no whole record, and the
+    /// reader stays there.
     pub fn next(&mut self) -> Result<Option<PlacedRecord<'f>>, FileFault>
         ensures found { view_next result ≡ found_next (rest_of self.old) }
         ensures after { rest_of self.new ≡ after_next (rest_of self.old) }
-        // What is read is spelled so.
+        // The words that were passed are those of the record that is answered.
         ensures spelt { (at : At) → view_next result ≡ Ok (Some at) → Spelt (rest_of self.old).words (record { found = at.found; rest = (rest_of self.new).words }) }
-        // What is spelled so is read.
+        // Where the words of a record stand next, that record is answered.
         ensures again { (r : Plain) (rest : List ℕ) → Writable r → (rest_of self.old).words ≡ record_words r ++ rest → (view_next result ≡ Ok (Some (record { found = r; place = (rest_of self.old).place }))) × ((rest_of self.new).words ≡ rest) }
     {
         self.advance()
     }
 
-    // Reads the next record.
+    // The next record and what is left behind it.
     fn advance(&mut self) -> Result<Option<PlacedRecord<'f>>, FileFault>
         ensures found { view_next result ≡ found_next (rest_of self.old) }
         ensures after { rest_of self.new ≡ after_next (rest_of self.old) }

@@ -6,26 +6,45 @@ ghost use Rattle.hourfile.specs.Format.{plain, record_of, shaped, unit_fits};
 
 use crate::words::{Word, all_values, value_at};
 
-/// A record by its kind, with the bytes of its values as they lie in the file.
+/// A record by its kind. It holds its values, the words behind its head, as they lie in the file. Energies are in kWh,
+/// prices and rates in rial per MWh, losses and ρ in hundredths of a percent; docs/hour.md has all fields.
 #[derive(Clone, Copy)]
 pub enum Record<'f> {
+    /// Kind 1, the header, 5 values: ceiling, CPF, BAR, saving, rate.
     Header(&'f [Word]),
+    /// Kind 2, a new plant, 1 value: its loss.
     Plant(&'f [Word]),
+    /// Kind 3, a new competitive unit, an even number of values, at least 4 + 2 × n: plant, declared gross, ρ, n, then
+    /// n steps of the offer, then the steps of the cost curve; a step is its width and its price.
     CompetitiveUnit(&'f [Word]),
+    /// Kind 4, a new guaranteed unit, 5 values: plant, declared gross, seasonal gross, ρ, β.
     GuaranteedUnit(&'f [Word]),
+    /// Kind 5, a new buyer, 1 value: its loss.
     Buyer(&'f [Word]),
+    /// Kind 6, a commitment, 3 values: plant, buyer, volume.
     Commit(&'f [Word]),
+    /// Kind 7, a correction, 3 values: group, unit, new declared gross.
     Correct(&'f [Word]),
+    /// Kind 8, a unit that is put aside, 2 values: group, unit.
     PutAside(&'f [Word]),
+    /// Kind 9, a unit that is taken back, 2 values: group, unit.
     TakeBack(&'f [Word]),
+    /// Kind 10, closing, no value.
     Close(&'f [Word]),
+    /// Kind 11, a competitive unit's reading, 18 values: unit; net, accepted, lost, UL, executed gross energy; α;
+    /// P_Act; deviations of types 2, 3, 5, 6, 8; day, minute; opportunity payment, planning and non-cooperation
+    /// penalty.
     CompetitiveReading(&'f [Word]),
+    /// Kind 12, a guaranteed unit's reading, 10 values: unit; net energy; P_Act; deviations of types 2, 3, 5, 6, 8;
+    /// day, minute.
     GuaranteedReading(&'f [Word]),
+    /// Kind 13, a buyer's reading, 2 values: buyer, use.
     BuyerReading(&'f [Word]),
+    /// Kind 14, settling, no value.
     Settle(&'f [Word]),
 }
 
-// Whether a competitive unit can have these values: four, and as many steps as the fourth says, and more steps.
+// Whether a competitive unit can have these values: four, then at least as many steps as the fourth says.
 fn unit_fits(values: &[Word]) -> bool
     ensures { result ≡ unit_fits (words values.now) }
 {
@@ -34,7 +53,7 @@ fn unit_fits(values: &[Word]) -> bool
 }
 
 impl<'f> Record<'f> {
-    /// The record of a kind with these words after its head, if there is one.
+    /// The record of a kind with these words after its head, if each is a value and they are as many as the kind asks.
     pub(crate) fn new(kind: u32, values: &'f [Word]) -> Option<Record<'f>>
         ensures { option_map plain result ≡ record_of kind (words values.now) }
     {

@@ -19,14 +19,15 @@ fn step_at(values: &[Word], place: usize) -> Step
     }
 }
 
-// The first ten steps of a list.
+// The first ten steps of a list; a step past its end has width 0 and price 0.
 fn first_steps(values: &[Word]) -> [Step; MAX_STEPS]
     ensures { length values.now / 2 ≤ 10 → take (length values.now / 2) result ≡ steps_of (words values.now) }
 {
     array::from_fn(|place| step_at(values, place))
 }
 
-/// A curve of the steps of some values, or the refusal of their list.
+/// The curve of a list of steps, two values each: a width in kWh and a price in rial per MWh. A last value
+/// without a partner is left out. `Err` is the list's refusal, 8 or 9; over ten steps are 8.
 pub fn stepped<const RISES: bool>(values: &[Word]) -> Result<Stepped<RISES>, CurveRefusal>
     ensures { result ≡ stepped_made RISES (steps_of (words values.now)) }
 {

@@ -5,6 +5,7 @@ ghost use Rattle.hourfile.specs.Words.{word, words, kind_of, count_of, is_value,
 /// The four bytes of a word, the lowest first.
 pub type Word = [u8; 4];
 
+// How many numbers 28 bits hold.
 const NUMBERS: u32 = 268_435_456;
 
 /// The kind of a word: its top four bits.
@@ -21,7 +22,7 @@ pub(crate) fn count_of(bytes: &Word) -> u32
     u32::from_le_bytes(*bytes) % NUMBERS
 }
 
-/// The value at a place of a record's values; 0 past their end.
+/// The value at a place of a record's values, counted from 0; past their end it is 0.
 pub fn value_at(values: &[Word], place: usize) -> u32
     ensures { result ≡ value_at (words values.now) place }
 {
@@ -37,7 +38,7 @@ fn is_value(bytes: &Word) -> bool
     kind_of(bytes) == 0
 }
 
-/// Whether each word is a value.
+/// Whether each word is a value: of kind 0.
 pub(crate) fn all_values(values: &[Word]) -> bool
     ensures { result ≡ all_values (words values.now) }
 {

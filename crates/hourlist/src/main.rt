@@ -1,4 +1,4 @@
-// Lists an hour file from standard input.
+// Reads an hour file from standard input, and prints its listing or the line of its fault.
 #![tactic(auto)]
 
 use listing::printed;

@@ -29,7 +29,7 @@ listed_exactly text before after place (Err fault) is = record {
   short = (λ short. ap Err is.0, λ same. is.1.0);
 }
 
--- a file whose hour isn't listed has another fault
+-- a fault of the file has another cause than a short buffer
 pub ends_exactly : (o : Option FileFault) (reached : Reached) (place : ℕ) (before after : List ℕ) (end : Result ℕ FileFault) → ((fault : FileFault) → o ≡ Some fault → fault.cause ≢ ShortBuffer) → EndsAs o reached place before end after → FileEndsExactly o reached place before end
 ends_exactly (Some fault) reached place before after end never is = (is.0, never fault refl)
 ends_exactly None (Unopened book) place before after end never is = is

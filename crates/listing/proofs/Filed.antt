@@ -14,7 +14,7 @@ use Rattle.reader.specs.declared.reached.Reached.{Reached}
 use Rattle.reader.specs.declared.reached.Reached.TheVariants.{Unopened, Open, Closed, Settled}
 use Rattle.listing.specs.Files.{EndsAs, ReachedListed, HourListed}
 
--- the fault of an end
+-- where the end is no fault, the outcome has none
 pub no_fault : (o : Option FileFault) (x : Unit) → end_of o ≡ Ok x → o ≡ None
 no_fault None x is = refl
 no_fault (Some fault) x is = absurd (true≢false (sym (ap is_ok is)))

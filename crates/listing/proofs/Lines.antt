@@ -13,7 +13,7 @@ use Rattle.listing.specs.declared.rows.Kind.{Kind}
 use Rattle.listing.specs.declared.rows.Kind.TheVariants.{Competitive, Guaranteed, Plants, Buyers}
 use Rattle.listing.specs.declared.rows.Row.{Row}
 
--- one number more
+-- a range with one number more
 more_by : {A : Type 0} (f : ℕ → List A) (a n : ℕ) → flat_map f (range_with_len a (suc n)) ≡ flat_map f (range_with_len a n) ++ f (a + n)
 more_by f a zero = append-nil (f a) ∙ ap f (there a)
   where
@@ -45,7 +45,7 @@ row_there Guaranteed number t row h = numbered number (min t.guaranteed.count 12
 row_there Plants number t row h = numbered number (min t.plants.count 32) (there_by _ _ _ _ row h)
 row_there Buyers number t row h = numbered number (min t.buyers.count 64) (there_by _ _ _ _ row h)
 
--- one line more
+-- the lines up to a number, and one line more
 pub line_more : (kind : Kind) (t : Table) (number : ℕ) (row : Row) (text : List ℕ) → 1 ≤ number → row_in kind number t ≡ Some row → (text ++ flat_map (λ k. line_of (row_in kind k t)) (range_with_len 1 (number - 1))) ++ line_of (Some row) ≡ text ++ flat_map (λ k. line_of (row_in kind k t)) (range_with_len 1 (number + 1 - 1))
 line_more kind t number row text low is =
     let f : ℕ → List ℕ = λ k. line_of (row_in kind k t) in
@@ -91,7 +91,7 @@ room_kept Guaranteed number t high = omega (arith, high)
 room_kept Plants number t high = omega (arith, high)
 room_kept Buyers number t high = omega (arith, high)
 
--- one line more
+-- the room of one line more
 pub room_more : (kind : Kind) (number : ℕ) → 1 ≤ number → (number + 1 - 1) * width kind ≡ (number - 1) * width kind + width kind
 room_more Competitive number low = omega (arith, low)
 room_more Guaranteed number low = omega (arith, low)

@@ -17,7 +17,7 @@ count_of Guaranteed t = min t.guaranteed.count 128
 count_of Plants t = min t.plants.count 32
 count_of Buyers t = min t.buyers.count 64
 
--- a row and a line feed
+-- the line of a row, with its line feed; nothing where there is no row
 abbrev pub line_of : Option Row → List ℕ
 line_of None = []
 line_of (Some row) = row_text row ++ codes "\n"
@@ -41,7 +41,7 @@ abbrev pub ListingWritten : List ℕ → List ℕ → Result ℕ ShortBuffer →
 ListingWritten text before (Ok n) after = (n ≡ length text) × ((n ≤ length before) × (after ≡ text ++ drop n before))
 ListingWritten text before (Err e) after = (length before < length text) × (after ≡ before)
 
--- The answer is the listing's length or 13, and 13 comes exactly where the buffer is shorter than the listing.
+-- The answer is the listing's length or a short buffer (13), and this comes exactly where the buffer is shorter.
 pub record ShortExactly (text before : List ℕ) (result : Result ℕ ShortBuffer) : Type 0 where
   pub fits : length text ≤ length before → result ≡ Ok (length text)
   pub short : length before < length text ↔ IsErr result

@@ -12,7 +12,7 @@ use Rattle.reader.specs.declared.reached.Reached.TheVariants.{Unopened, Open, Cl
 use Rattle.listing.specs.Files.{ended}
 use Rattle.listing.specs.Listing.{listing_of}
 
--- a fault and a line feed
+-- the line of a fault, with its line feed
 abbrev pub fault_line : FileFault → List ℕ
 fault_line fault = fault_text fault ++ codes "\n"
 

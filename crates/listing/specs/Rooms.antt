@@ -12,7 +12,7 @@ line_room (Guaranteed number figures) = 51
 line_room (Plant number figures) = 111
 line_room (Buyer number figures) = 48
 
--- all rows of a kind
+-- the lines of all rows of a kind
 abbrev pub rows_room : Kind → ℕ
 rows_room CompetitiveUnits = 128 * 51
 rows_room GuaranteedUnits = 128 * 51

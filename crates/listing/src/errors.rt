@@ -1,5 +1,5 @@
-// Why a listing could not be written.
+// Why a listing wasn't written.
 
-/// The buffer is shorter than the listing.
+/// The buffer has fewer bytes than the listing, and nothing was written: 13 of docs/refusals.md.
 #[derive(Clone, Copy, Debug, PartialEq)]
 pub struct ShortBuffer;

@@ -28,7 +28,7 @@ pub(crate) fn ended(place: u32) -> FileFault
     }
 }
 
-// The end of a listing whose file has so many bytes.
+// What writing the listing of a file of so many bytes answers: a buffer that is too short is 13 at the file's length.
 fn list_end(end: Result<usize, ShortBuffer>, place: u32) -> Result<usize, FileFault>
     ensures { result ≡ list_end end place }
 {
@@ -51,7 +51,9 @@ fn list_reached(reached: &Reached, place: u32, out: &mut [u8]) -> Result<usize, 
     }
 }
 
-/// Reads a file into a book and writes the listing of its hour at a buffer's start. At a fault the buffer stays as it was.
+/// Reads a file into a book and writes the listing of its hour at the start of `out`; the bytes behind it stay. At a
+/// fault, 13 too, `out` stays as it was. Book, file and buffer are the caller's; the hour that is given back borrows
+/// the book. A buffer of `LONGEST_LISTING` bytes is never too short.
 pub fn list_hour<'b>(book: &'b mut Book, file: &[u8], out: &mut [u8]) -> Listed<'b>
     ensures listed { HourListed book.old.table file.now out.old result out.new }
     ensures exactly { FileEndsExactly (outcome file.now).fault result.reached (length file.now) out.old result.end }

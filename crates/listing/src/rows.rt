@@ -4,7 +4,7 @@ ghost use Rattle.listing.specs.Rows.{row_in};
 
 use book::{BuyerFigures, PlantFigures, SettledHour, UnitFigures};
 
-/// What rows are listed, in the order of the listing.
+/// The kinds of rows, in the order of the listing, which has a line for each row, by rising number.
 #[derive(Clone, Copy, PartialEq)]
 pub enum Kind {
     Competitive,
@@ -13,7 +13,7 @@ pub enum Kind {
     Buyers,
 }
 
-/// A row with its number.
+/// A row of a settled hour, with its number from 1 on.
 #[derive(Clone, Copy)]
 pub enum Row {
     Competitive { number: u8, figures: UnitFigures },
@@ -23,7 +23,7 @@ pub enum Row {
 }
 
 impl Row {
-    /// The row of a number, if there is one.
+    /// The row of this kind and number, if there is one.
     pub(crate) fn of(hour: &SettledHour, kind: Kind, number: u8) -> Option<Row>
         ensures { result ≡ row_in kind number hour.now.book.now.table }
     {

@@ -10,14 +10,14 @@ use hourfile::FileFault;
 use reader::{FileHour, Reached, read_hour};
 use std::alloc::{AllocError, Global};
 
-/// The line of a fault.
+/// The line of a fault, `R Y n p` and a line feed, on the heap and the caller's. `Err` is want of memory.
 pub fn fault_line(heap: Global, fault: FileFault) -> Result<String, AllocError>
     ensures { IfOk result (λ line. string_bytes line ≡ fault_line fault) }
 {
     format!(in heap; "{fault}\n")
 }
 
-// What is printed for the hour that a file without a fault led to, if it is settled.
+// What is printed where reading a file of so many bytes found no fault: the listing, since the hour is then settled.
 fn hour_shown(heap: Global, reached: &Reached, place: u32) -> Result<String, AllocError>
     ensures { IfOk result (λ text. HourShown reached.now place (string_bytes text)) }
 {
@@ -29,7 +29,8 @@ fn hour_shown(heap: Global, reached: &Reached, place: u32) -> Result<String, All
     }
 }
 
-/// What is printed for a file: the listing of its hour, or the line of its fault.
+/// What hourlist prints for a file: the listing of its settled hour, or the line of its first fault, which is never 13.
+/// The text is on the heap and the caller's, and the book its own. `Err` is want of memory.
 pub fn printed(heap: Global, file: &[u8]) -> Result<String, AllocError>
     ensures { IfOk result (λ text. IsPrinted file.now (string_bytes text)) }
 {

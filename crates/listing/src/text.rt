@@ -11,10 +11,10 @@ use crate::sink::{Sink, Text};
 use book::SettledHour;
 use std::alloc::{AllocError, Global};
 
-// The most rows of a kind.
+// The most rows of a kind: the units of a group.
 const MOST_ROWS: u8 = 128;
 
-// Writes the rows of a kind.
+// Writes the lines of the rows of a kind.
 fn write_rows<S: Sink>(text: &mut S, hour: &SettledHour, kind: Kind) -> Result<(), S::Error>
     requires room { length (S.bytes text.old) + rows_room kind ≤ 19745 }
     ensures rows { OnOk result (S.bytes text.new ≡ S.bytes text.old ++ lines_of kind hour.now.book.now.table) }
@@ -41,7 +41,7 @@ fn write_hour<S: Sink>(text: &mut S, hour: &SettledHour) -> Result<(), S::Error>
     push_hour(text, hour.hour())
 }
 
-/// The listing of a settled hour.
+/// The listing of a settled hour, on the heap and the caller's. `Err` is want of memory.
 pub fn listing(heap: Global, hour: &SettledHour) -> Result<String, AllocError>
     ensures { IfOk result (λ text. string_bytes text ≡ listing_of hour.now.book.now.table) }
 {
@@ -50,8 +50,8 @@ pub fn listing(heap: Global, hour: &SettledHour) -> Result<String, AllocError>
     Ok(text)
 }
 
-/// Writes the listing of a settled hour at a buffer's start, and answers its length. A buffer that is too short stays as it
-/// was.
+/// Writes the listing of a settled hour at a buffer's start, and answers its length in bytes; the bytes behind it stay.
+/// `Err` is 13: the buffer is shorter than the listing, and stays as it was. It needs no heap.
 pub fn write_listing(hour: &SettledHour, out: &mut [u8]) -> Result<usize, ShortBuffer>
     ensures written { ListingWritten (listing_of hour.now.book.now.table) out.old result out.new }
     ensures exactly { ShortExactly (listing_of hour.now.book.now.table) out.old result }

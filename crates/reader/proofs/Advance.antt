@@ -29,7 +29,7 @@ pub priced_made : (plant declared internal : ℕ) (x : Result UnitRow CurveRefus
 priced_made plant declared internal (Ok row) h t stands is = entry_made (AddCompetitive plant declared internal) h t stands is
 priced_made plant declared internal (Err refusal) h t stands is = is
 
--- and after a reading
+-- the table after a reading is that of the accepted readings
 module _ (r : Reading) (h : List Entry) (rs : List Reading) (closed t : Table) (stands : Stands h t) (is : t ≡ readings_made closed rs) where
   reading_by : (o : Option BookRefusal) → reading_rows (view_in h) r ≡ o → after_reading r t ≡ readings_made closed (unless o (λ _. rs) (r ∷ rs))
   reading_by None same = ap (after_reading r) is

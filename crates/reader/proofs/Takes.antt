@@ -56,7 +56,7 @@ closed_reached t m hour next kept (((table, unread), stands), rows) closing same
     let closed = closes _ _ _ _ hour next both same m.header m.entries stands in
     ((holds, subst (λ rs. IsClosed m.header (closing_offers m) m.entries rs next) (sym unread) closed), rows)
 
--- settling it
+-- settling a closed hour by the rows that are kept
 pub settled_reached : (t : Table) (m : Made) (hour : ClosedHour) (next : SettledHour) (kept : UnitRows) → Reaches t (Closed m) (ClosedAt hour) kept → HourSettled hour.header (pay_of hour.header (rows_of kept)) hour.book.now.table next.book.now.table → Reaches t (Settled m) (SettledAt next) kept
 settled_reached t m hour next kept ((holds, stands), rows) settling =
     let both : HourSettled m.header (pay_of m.header m.rows) hour.book.now.table next.book.now.table = rw (sym rows.rows) (rw (sym stands.header) settling) in
@@ -73,7 +73,7 @@ settled_reached t m hour next kept ((holds, stands), rows) settling =
     let table = settling_settles stepped_offer_price stepped_cost_price m.rows tariff_price (tariffs m.header) m.header (closing_offers m) m.entries m.readings hour.book.now.table next.book.now.table both c in
     ((settled, record { table = table }), Prim.tt)
 
--- what an entry adds to the competitive units, if it is one
+-- how many competitive units a record's entry adds, if it is an entry
 abbrev pub added_by : Option Entry → ℕ
 added_by None = 0
 added_by (Some e) = adds_unit 1 e
@@ -128,7 +128,7 @@ other_read m (GuaranteedReading v) settle = refl
 other_read m (BuyerReading v) settle = refl
 other_read m (Settle v) settle = absurd (settle v refl)
 
--- an entry, or a record that is none
+-- the call of an entry, or of a record that is none
 module _ (t : Table) (m : Made) (hour next : OpenHour) (kept : UnitRows) (r : Reaches t (Opened m) (OpenAt hour) kept) (end : Result Unit FileFault) where
   entry_by : (e : Entry) (o : Option BookRefusal) → adds_unit 1 e ≡ 0 → end ≡ book_end (unless o Err (Ok (number_in e m.entries))) → next.book.now.table ≡ entries_made (unless o (λ _. m.entries) (e ∷ m.entries)) → IsOpen m.header (unless o (λ _. m.entries) (e ∷ m.entries)) next → Taken t (Opened m) (taken o (Ok (Opened (entered m e)))) end (OpenAt next) kept
   entry_by e None none told table stands =
@@ -143,7 +143,7 @@ module _ (t : Table) (m : Made) (hour next : OpenHour) (kept : UnitRows) (r : Re
       (made.after ∙ entry_made e m.entries hour.book.now.table stands.table.stands holds.0)
       (made.stands m.header m.entries stands)
 
--- a competitive unit with its rows: the book's rows of refusals, then the lists'
+-- the call of a competitive unit with its rows: the book's rows of refusals, then the lists'
 module _ (t : Table) (m : Made) (v : List ℕ) (hour next : OpenHour) (kept new : UnitRows) (r : Reaches t (Opened m) (OpenAt hour) kept) (end : Result Unit FileFault) where
   -- what is told by an answer, and the entries accepted with it
   record UnitStep (answer : Result (ℕ × UnitRow) UnitRefusal) (h : List Entry) : Type 0 where
@@ -181,7 +181,7 @@ module _ (t : Table) (m : Made) (v : List ℕ) (hour next : OpenHour) (kept new 
         rows = subst (λ a. RowsAfter a kept new) follows made.rows;
       })
 
--- a reading, or a record that is none
+-- the call of a reading, or of a record that is none
 module _ (t : Table) (m : Made) (hour next : ClosedHour) (kept : UnitRows) (r : Reaches t (Closed m) (ClosedAt hour) kept) (end : Result Unit FileFault) where
   reading_by : (x : Reading) (o : Option BookRefusal) → end ≡ book_end (unless o Err (Ok (reading_number x))) → next.book.now.table ≡ readings_made r.0.0.closed (unless o (λ _. m.readings) (x ∷ m.readings)) → ClosingLaw stepped_offer_price (offers_of m.rows) tariff_price (tariffs m.header) m.entries next.book.now.table → IsClosed m.header (closing_offers m) m.entries (unless o (λ _. m.readings) (x ∷ m.readings)) next → Taken t (Closed m) (taken o (Ok (Closed (read m x)))) end (ClosedAt next) kept
   reading_by x None told table law stands =

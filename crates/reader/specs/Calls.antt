@@ -16,7 +16,7 @@ use Rattle.reader.specs.Progress.{unit_row}
 use Rattle.reader.specs.Rows.{UnitRow, rows_of}
 use Rattle.reader.specs.declared.kept.UnitRows.{UnitRows}
 
--- a fault whose place is not written yet
+-- the fault of a cause, at place 0 until that of the record is set
 abbrev pub unplaced : Cause → FileFault
 unplaced cause = record { cause = cause; place = 0 }
 
@@ -34,20 +34,21 @@ abbrev pub RowsAfter : Result (ℕ × UnitRow) UnitRefusal → UnitRows → Unit
 RowsAfter (Ok x) old new = old.count < 128 → (rows_of new ≡ rows_of old ++ (x.1 ∷ [])) × (new.count ≡ old.count + 1)
 RowsAfter (Err refusal) old new = new ≡ old
 
--- The entry of a record is taken, and its answer is told as the file's. A record that is none is misplaced, and the hour
--- stays.
+-- The entry of a record is taken, and its answer is told as the file's. A record that is none is misplaced, and the
+-- hour stays.
 abbrev pub EntryMade : Option Entry → Result Unit FileFault → OpenHour → OpenHour → Type 0
 EntryMade None end hour next = (end ≡ Err (unplaced Misplaced)) × (next ≡ hour)
 EntryMade (Some e) end hour next = (answer : Result ℕ BookRefusal) × (end ≡ book_end answer) × EntryTaken e answer hour next
 
--- so is that of a competitive unit's values, with the outcome of making its row
+-- A competitive unit is added with the outcome of making its row, and the answer is told as the file's.
 pub record UnitMade (v : List ℕ) (end : Result Unit FileFault) (hour next : OpenHour) (kept new : UnitRows) : Type 0 where
   pub answer : Result (ℕ × UnitRow) UnitRefusal
   pub told : end ≡ unit_end answer
   pub taken : PricedTaken (value_at v 0) (value_at v 1) (value_at v 2) (unit_row v) answer hour next
   pub rows : RowsAfter answer kept new
 
--- and the reading of a record
+-- The reading of a record is taken, and its answer is told as the file's. A record that is none is misplaced, and the
+-- hour stays.
 abbrev pub ReadingMade : Option Reading → Result Unit FileFault → ClosedHour → ClosedHour → Type 0
 ReadingMade None end hour next = (end ≡ Err (unplaced Misplaced)) × (next ≡ hour)
 ReadingMade (Some r) end hour next = (answer : Result ℕ BookRefusal) × (end ≡ book_end answer) × ReadingTaken r answer hour next

@@ -14,7 +14,7 @@ pub record Outcome : Type 0 where
   pub progress : Progress
   pub fault : Option FileFault
 
--- the end of a file is a fault before settle
+-- the fault of a file that ends here: 12, if the hour isn't settled
 abbrev pub end_fault : ℕ → Progress → Option FileFault
 end_fault place Unopened = Some (record { cause = Ended; place = place })
 end_fault place (Opened m) = Some (record { cause = Ended; place = place })
@@ -24,7 +24,7 @@ end_fault place (Settled m) = None
 abbrev pub stopped : Progress → FileFault → Outcome
 stopped p fault = record { progress = p; fault = Some fault }
 
--- where a call leads, reading goes on; what is turned down stops it at its place
+-- where a call leads, reading goes on; a call that is turned down is a fault at its record's place
 abbrev pub go_on : (Progress → Outcome) → Progress → ℕ → Result Progress Cause → Outcome
 go_on more p place (Ok next) = more next
 go_on more p place (Err cause) = stopped p (record { cause = cause; place = place })
@@ -34,8 +34,8 @@ found_there more place p (Ok None) = record { progress = p; fault = end_fault pl
 found_there more place p (Ok (Some at)) = go_on more p at.place (call p at.found)
 found_there more place p (Err fault) = stopped p fault
 
--- The records of what is still to be read, one after another. A record has at least one word, so there are at most as many
--- records as words.
+-- The records of what is still to be read, one after another. A record has at least one word, so there are at most as
+-- many records as words.
 unfoldable pub read_on : ℕ → Rest → Progress → Outcome
 read_on zero r p = record { progress = p; fault = end_fault r.place p }
 read_on (suc n) r p = found_there (read_on n (after_next r)) r.place p (found_next r)

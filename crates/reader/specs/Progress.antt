@@ -20,7 +20,8 @@ use Rattle.hourfile.specs.declared.faults.Cause.{Cause}
 use Rattle.hourfile.specs.declared.faults.Cause.TheVariants.{Misplaced, Book, Steps as ByLists}
 use Rattle.reader.specs.Rows.{UnitRow}
 
--- the accepted calls of a file: the newest entry and reading first, and the rows of the competitive units by their number
+-- the accepted calls of a file: the newest entry and reading first, and the rows of the competitive units by their
+-- number
 pub record Made : Type 0 where
   pub header : Header
   pub entries : List Entry
@@ -34,7 +35,7 @@ pub data Progress : Type 0 where
   Closed : Made → Progress
   Settled : Made → Progress
 
--- what a row of refusals turns down, or what follows
+-- the refusal of the row that applies, or what follows where none does
 abbrev pub taken : Option BookRefusal → Result Progress Cause → Result Progress Cause
 taken None next = next
 taken (Some refusal) next = Err (Book refusal)
@@ -62,7 +63,7 @@ abbrev pub entry_call : Made → Option Entry → Result Progress Cause
 entry_call m None = Err Misplaced
 entry_call m (Some e) = taken (rows (view_in m.entries) e) (Ok (Opened (entered m e)))
 
--- Two lists make a row: 8 in either list comes before 9 in either.
+-- the row of two lists, or the refusal of one: 8 of either comes before 9 of either
 abbrev pub row_made : Result SteppedOffer CurveRefusal → Result SteppedCost CurveRefusal → Result UnitRow CurveRefusal
 row_made (Ok offer) (Ok cost) = Ok (record { offer = offer; cost = cost })
 row_made (Ok offer) (Err Steps) = Err Steps

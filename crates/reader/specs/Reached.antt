@@ -16,8 +16,9 @@ use Rattle.reader.specs.declared.kept.UnitRows.{UnitRows}
 use Rattle.reader.specs.declared.reached.Reached.{Reached}
 use Rattle.reader.specs.declared.reached.Reached.TheVariants.{Unopened as NoHour, Open as OpenAt, Closed as ClosedAt, Settled as SettledAt}
 
--- What the book holds where the calls have led: exactly the effect of the accepted calls, and the laws of an hour. The hour
--- stands for these calls, as if each were made on it by itself. Before one is opened, the book has the table that it had.
+-- What the book holds where the calls have led: exactly the effect of the accepted calls, and the laws of an hour. The
+-- hour stands for these calls, as if each were made on it by itself. Before one is opened, the book has the table that
+-- it had.
 abbrev pub BookHolds : Table → Progress → Reached → Type 0
 BookHolds t Unopened (NoHour book) = book.now.table ≡ t
 BookHolds t (Opened m) (OpenAt hour) = OpenHolds m hour.book.now.table × IsOpen m.header m.entries hour
@@ -32,7 +33,7 @@ pub record KeptRows (made : List UnitRow) (h : List Entry) (kept : UnitRows) : T
   pub rows : rows_of kept ≡ made
   pub count : kept.count ≡ units_in 1 h
 
--- none before an hour is opened; once it is settled they are of no account
+-- the rows that are kept where the calls have led: none before an hour is opened, and any once it is settled
 abbrev pub RowsKept : Progress → UnitRows → Type 0
 RowsKept Unopened kept = KeptRows [] [] kept
 RowsKept (Opened m) kept = KeptRows m.rows m.entries kept
@@ -48,7 +49,7 @@ abbrev pub Taken : Table → Progress → Result Progress Cause → Result Unit 
 Taken t p (Ok next) result reached rows = (result ≡ Ok Prim.tt) × Reaches t next reached rows
 Taken t p (Err cause) result reached rows = (result ≡ Err (unplaced cause)) × Reaches t p reached rows
 
--- a record is such a call, on an hour that stands where the calls before it have led
+-- a record is a call that leads on or is turned down, on an hour that stands where the calls before it have led
 abbrev pub Takes : Progress → Plain → Reached → UnitRows → Result Unit FileFault → Reached → UnitRows → Type 0
 Takes p given reached rows result next new =
     (t : Table) → Reaches t p reached rows → Taken t p (call p given) result next new

@@ -11,6 +11,6 @@ UnitRow = PriceRow SteppedOffer SteppedCost
 abbrev pub rows_of : UnitRows → List UnitRow
 rows_of r = take r.count r.rows
 
--- their offers
+-- the offers of some rows
 abbrev pub offers_of : List UnitRow → List SteppedOffer
 offers_of rows = map (λ row. row.offer) rows

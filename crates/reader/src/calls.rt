@@ -12,7 +12,7 @@ use crate::reached::Reached;
 use book::{Book, ClosedHour, OpenHour};
 use hourfile::{Cause, FileFault, Record};
 
-// The first record: a header opens an empty hour.
+// The first record: a header opens an empty hour, and any other is misplaced.
 fn first<'b>(book: &'b mut Book, given: &Record) -> (Reached<'b>, Result<(), FileFault>)
     ensures { (rows : UnitRows) → Takes Unopened (plain given.now) (Reached.Unopened book.entry) rows result.1 result.0 rows }
 {
@@ -62,7 +62,8 @@ fn on_closed<'b>(
 }
 
 impl<'b> Reached<'b> {
-    /// Makes the call of a record: where it leads, and what turned it down.
+    /// Makes the call of a record: where it leads, and what turned it down, at place 0 until the caller sets the
+    /// record's.
     pub(crate) fn take(
         self,
         rows: &mut UnitRows,

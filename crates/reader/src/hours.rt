@@ -17,7 +17,7 @@ use curves::Tariff;
 use hourfile::{Cause, FileFault, Record, Word, value_at};
 use table::UNITS;
 
-/// The header of a record's values.
+/// The header of a record's values, or its refusal, 9.
 pub(crate) fn header_of(values: &[Word]) -> Result<Header, BookRefusal>
     ensures { result ≡ checked (header_of (words values.now)) }
 {
@@ -30,7 +30,7 @@ pub(crate) fn header_of(values: &[Word]) -> Result<Header, BookRefusal>
     )
 }
 
-/// Makes the entry of a record, if it is one.
+/// Makes the entry of a record; one that is no entry is misplaced.
 pub(crate) fn enter(hour: &mut OpenHour, given: &Record) -> Result<(), FileFault>
     ensures { EntryMade (entry_of (plain given.now)) result hour.old hour.new }
 {
@@ -39,7 +39,7 @@ pub(crate) fn enter(hour: &mut OpenHour, given: &Record) -> Result<(), FileFault
     Ok(())
 }
 
-/// Enters a competitive unit with its rows, by a record's values.
+/// Adds the competitive unit of a record's values, and keeps its row. Where either is refused nothing changes.
 pub(crate) fn enter_unit(
     hour: &mut OpenHour,
     rows: &mut UnitRows,
@@ -56,7 +56,7 @@ pub(crate) fn enter_unit(
     Ok(())
 }
 
-/// Takes the reading of a record, if it is one.
+/// Takes the reading of a record; one that is no reading is misplaced.
 pub(crate) fn read(hour: &mut ClosedHour, given: &Record) -> Result<(), FileFault>
     ensures { ReadingMade (reading_of (plain given.now)) result hour.old hour.new }
 {
@@ -73,7 +73,7 @@ fn tariffs(header: &Header) -> [Tariff; UNITS]
     [Tariff { rate }; UNITS]
 }
 
-/// Closes the hour by the offers of its rows.
+/// Closes the hour by the offers of its rows, and by the header's tariff for each guaranteed unit.
 pub(crate) fn close<'b>(hour: OpenHour<'b>, rows: &UnitRows) -> ClosedHour<'b>
     ensures closed { ClosedBy hour.entry.header (rows_of rows.now) hour.entry.book.now.table result.book.now.table }
     ensures header { result.header ≡ hour.entry.header }
@@ -83,7 +83,7 @@ pub(crate) fn close<'b>(hour: OpenHour<'b>, rows: &UnitRows) -> ClosedHour<'b>
     hour.close(&offers[..rows.count], &tariffs(&header))
 }
 
-/// Settles the hour by its rows.
+/// Settles the hour by its rows, and by the header's tariff for each guaranteed unit.
 pub(crate) fn settle<'b>(hour: ClosedHour<'b>, rows: &UnitRows) -> SettledHour<'b>
     ensures { Settled hour.entry.header (pay_of hour.entry.header (rows_of rows.now)) hour.entry.book.now.table result.book.now.table }
 {

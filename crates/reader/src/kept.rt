@@ -1,4 +1,4 @@
-// The price rows that are kept while a file is read. In a file of their own, since definitions about them may not lead back.
+// The price rows that are kept while a file is read.
 ghost use Rattle.std.specs.Prelude.{◌≡◌, ◌≤◌, length};
 
 use book::PriceRow;

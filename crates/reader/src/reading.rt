@@ -15,7 +15,7 @@ use book::Book;
 use hourfile::{Cause, FileFault, Reader};
 
 impl Reached<'_> {
-    // The end of the file at a place: a fault before settle.
+    // The end of the file at a place: fault 12, if the hour isn't settled.
     fn ended(&self, place: u32) -> Result<(), FileFault>
         ensures { (t : Table) (p : Progress) → BookHolds t p self.now → result ≡ end_of (end_fault place p) }
     {
@@ -51,10 +51,12 @@ fn read_records<'b>(reader: &mut Reader, book: &'b mut Book) -> FileHour<'b>
     FileHour { reached, end }
 }
 
-/// Reads a file into a book: makes the calls of its records in turn, up to the first fault.
+/// Reads a file of the caller's into a book of the caller's: makes the calls of its records in turn, up to the first
+/// fault. The hour that is given back borrows the book until it is let go; before a header is accepted the book is as
+/// it was.
 pub fn read_hour<'b>(book: &'b mut Book, file: &[u8]) -> FileHour<'b>
     ensures read { FileRead book.old.table (outcome file.now) result }
-    // What is spelled by records is read as these, one call each.
+    // Where a list of records spells the file, it is read as these, one call each.
     ensures records { (rs : List Plain) → FileOf rs file.now → outcome file.now ≡ records_read 0 Unopened rs }
 {
     match Reader::new(file) {

@@ -7,7 +7,7 @@ use curves::{MAX_STEPS, Step, StepTable, Stepped, SteppedOffer};
 use std::array;
 use table::UNITS;
 
-// A curve of no steps.
+// What stands for the curve of a unit in a place that no row has taken: no step is in use.
 fn blank<const RISES: bool>() -> Stepped<RISES> {
     let steps = [Step::default(); MAX_STEPS];
     Stepped {
@@ -50,7 +50,7 @@ impl UnitRows {
         }
     }
 
-    /// The offers of the rows, in an array's first places.
+    /// The offers of the rows, in an array's first places; those behind them are of no unit.
     pub(crate) fn offers(&self) -> [SteppedOffer; UNITS]
         ensures { take self.now.count result ≡ offers_of (rows_of self.now) }
     {

@@ -7,7 +7,7 @@ use crate::kept::UnitRow;
 use curves::{CurveRefusal, SteppedCost, SteppedOffer};
 use hourfile::{Word, stepped, value_at};
 
-// The values of the offer's steps, and those of the cost curve's.
+// The values of the steps of the offer, and of the cost curve: those behind the first four, parted after n steps.
 fn unit_lists(values: &[Word]) -> (&[Word], &[Word])
     ensures offer { words result.0.now ≡ take (2 * value_at (words values.now) 3) (drop 4 (words values.now)) }
     ensures cost { words result.1.now ≡ drop (2 * value_at (words values.now) 3) (drop 4 (words values.now)) }
@@ -17,7 +17,7 @@ fn unit_lists(values: &[Word]) -> (&[Word], &[Word])
     steps.split_at(count.min(steps.len()))
 }
 
-// A row of two lists: 8 in either list comes before 9 in either.
+// The row of two lists, or the refusal of one: 8 of either comes before 9 of either.
 fn row_of(
     offer: Result<SteppedOffer, CurveRefusal>,
     cost: Result<SteppedCost, CurveRefusal>,
@@ -31,7 +31,7 @@ fn row_of(
     }
 }
 
-/// The row of a competitive unit's values.
+/// The row of a competitive unit's values, or 8 or 9 where one of its step lists is refused.
 pub(crate) fn unit_row(values: &[Word]) -> Result<UnitRow, CurveRefusal>
     ensures { result ≡ unit_row (words values.now) }
 {

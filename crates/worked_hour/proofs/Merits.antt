@@ -1,5 +1,5 @@
--- The amounts of the worked hours are in merit order. Whether some are is found by computing: each unit's price never falls
--- within its limit, and the last kWh that one unit gets comes before the first that another doesn't.
+-- The amounts of the worked hours are in merit order. What is computed of some amounts is that each unit's price never
+-- falls within its limit, and that the last kWh that one unit gets comes before the first that another doesn't.
 use Rattle.std.proofs.Common.{◌≡◌, ℕ, zero, suc, ◌<◌, ◌≤◌, min, Bool, true, cond, ◌&&◌, ◌||◌, leb, ltb, eqb, List, refl, sym, ap, subst, ◌∙◌, inl, inr, ⊎_elim, arith}
 use Rattle.std.proofs.lemmas.Bool.{cases_lt, and_parts, and_from, or_cases, leb-true, ltb-true, eqb-true, le-leb, lt-ltb, le-ltb, cond-true}
 use Rattle.allocation.proofs.Orders.{split_of}
@@ -135,7 +135,7 @@ module _ (g plant : ℕ) (h : List Entry) (t : UnitTable) where
       (merit group share amount parts.0 (eqb-true (total group amount) (min share (total group group.limit)) more.0))
       (eqb-true left (uncovered group share amount) rest.0) (past group.units rest.1)
 
--- a fact of plant 1, and of two plants
+-- what holds of plant 1 holds of each plant where there is one, and so with plants 1 and 2 where there are two
 first_place : (P : ℕ → Type 0) → P 0 → (i : ℕ) → i < 1 → P i
 first_place P one zero lt = one
 first_place P one (suc i) lt = absurd (omega arith)

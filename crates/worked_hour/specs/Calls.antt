@@ -10,14 +10,14 @@ use Rattle.book.specs.States.State.{Open, Closed, Settled}
 use Rattle.book.specs.declared.calls.CallAnswer.{CallAnswer}
 use Rattle.book.specs.declared.calls.CallAnswer.TheVariants.{Number, Done, Refused, OutOfTurn}
 
--- one guaranteed offer of a price
+-- an offer of one price for guaranteed unit 1, and none for competitive units
 abbrev pub offer : ℕ → Offers
 offer price = record { competitive = []; guaranteed = (λ kwh. price) ∷ [] }
 
 abbrev pub row : ℕ → PriceRows
 row price = record { competitive = []; guaranteed = (λ kwh. price) ∷ [] }
 
--- of two closings and two settlings the first in turn counts
+-- of three closings and three settlings the first that is in turn counts
 abbrev pub calls : List Call
 calls =
     Read (Use 1 5) ∷ Enter (AddPlant 0) ∷ Enter (Commit 1 1 50) ∷ Settle (row 1)

@@ -31,7 +31,8 @@ use Rattle.worked_hour.specs.Refused.{seen, one, each, each_read, guaranteed, of
 abbrev pub tenth : ℕ → ℕ → List Step
 tenth width price = nine ++ (step width price ∷ [])
 
--- lists that fall, that have a price over the highest, that have both, and that are too long besides; and some that are made
+-- lists that fall, that have a price over the highest, that have both, and that are too long besides; and some that are
+-- made
 abbrev pub lists : List (List Step)
 lists =
     (step 1 20000000 ∷ step 1 15000000 ∷ []) ∷ (step 1 15000000 ∷ step 1 20000000 ∷ [])
@@ -41,7 +42,8 @@ lists =
     ∷ tenth 1 0 ∷ tenth 0 1 ∷ tenth 2000001 1 ∷ tenth 0 10000001 ∷ (step 1 0 ∷ nine)
     ∷ replicate 10 (step 2000000 10000000) ∷ (step 1 0 ∷ []) ∷ []
 
--- a competitive reading of a unit: an energy, an adjustment, the mark, a day and energy under a technical limit
+-- a competitive reading of a unit by P_Act, the planning penalty, α, the maintenance day and UL energy, with no other
+-- energy
 abbrev pub reading : ℕ → ℕ → ℕ → ℕ → ℕ → ℕ → Reading
 reading unit p_act planning asked day limited = Competitive unit (record {
   energies = record { net = 0; accepted = 0; lost = 0; limited = limited; executed = 0; asked = asked };
@@ -64,7 +66,7 @@ crowded = record {
   figures = planted.figures;
 }
 
--- price rows, as they were made or refused
+-- outcomes of making price rows: made, refused with 8, refused with 9
 abbrev pub made : Result ℕ CurveRefusal
 made = Ok 7
 
@@ -89,8 +91,8 @@ abbrev pub seasons : List Entry
 seasons =
     AddPlant 0 ∷ AddBuyer 0 ∷ AddCompetitive 1 10 0 ∷ AddGuaranteed 1 0 20 0 0 ∷ AddGuaranteed 1 30 0 0 0 ∷ Commit 1 1 100 ∷ []
 
--- one plant with two units of each group, the guaranteed ones feeding the distribution grid. The first unit of each group has
--- a row, and the second has none.
+-- one plant with two units of each group, the guaranteed ones feeding the distribution grid. The first unit of each
+-- group has a row, and the second has none.
 abbrev pub entries : List Entry
 entries =
     AddPlant 0 ∷ AddBuyer 0 ∷ AddCompetitive 1 40 0 ∷ AddCompetitive 1 60 0 ∷ AddGuaranteed 1 30 20 0 1 ∷ AddGuaranteed 1 50 50 0 1
@@ -157,7 +159,7 @@ pub record EdgeExamples : Type 0 where
   pub limits : net_of 0 0 2000000 ∷ net_of 2000 2000 2000000 ∷ net_of 2001 2500 2000000 ∷ [] ≡ 2000000 ∷ 1280000 ∷ 1280000 ∷ []
   pub weights : weight_of 2000 10000 ∷ weight_of 2001 10000 ∷ weight_of 1999 10000 ∷ weight_of 2000 50000000 ∷ [] ≡ 12000 ∷ 12000 ∷ 11999 ∷ 60000000 ∷ []
   pub most_saved : guaranteed_payment 2000001 (λ k. 3) 1 30 ≡ 66000000
-  -- units without a row have no limit, count in no share and are paid nothing, though they are billed
+  -- units without a row have limit 0, count in no share and are paid nothing, though they are billed
   pub limits_one : map (λ i. (group_in 1 step_price (offer ∷ []) 1 (entered entries)).limit i) (0 ∷ []) ≡ 40 ∷ []
   pub limits_two : map (λ i. (group_in 2 step_price (offer ∷ []) 1 (entered entries)).limit i) (0 ∷ []) ≡ 20 ∷ []
   pub shares : share_one_in 1 1 1 (entered entries) ∷ share_two_in 1 1 1 (entered entries) ∷ [] ≡ 40 ∷ 30 ∷ []

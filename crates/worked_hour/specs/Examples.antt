@@ -1,5 +1,5 @@
--- The worked examples: limits, shares, the split, payments, the maintenance mark, day support, the buyers' shares, and the
--- figures of the worked hour.
+-- The worked examples: limits, shares, the split, payments, the maintenance mark, day support, the buyers' shares, and
+-- the figures of the worked hour.
 use Rattle.std.specs.Prelude.{◌≡◌, ℕ, ◌-◌, true, false, List, [], ◌∷◌, pos, negsuc, ◌-ℤ◌}
 use Rattle.allocation.specs.TwoUnits.{WorkedExample}
 use Rattle.curves.specs.Steps.{step_price}
@@ -22,14 +22,14 @@ use Rattle.book.specs.Law.{entered, metered}
 abbrev pub step : ℕ → ℕ → Step
 step width price = record { width = width; price = price }
 
--- 100 kWh at 300, then 500; and a cost of 350
+-- 100 kWh at 300 rial per MWh, then 500; and a cost of 350
 abbrev pub offer : List Step
 offer = step 100 300 ∷ (step 100 500 ∷ [])
 
 abbrev pub cost : List Step
 cost = step 100 350 ∷ []
 
--- the worked unit, with an allocated amount: net 130, accepted 110, of which 20 under a technical limit
+-- the worked unit with an allocated amount: net energy 130, accepted 110, UL 20
 abbrev pub unit : ℕ → PaidUnit
 unit allocated = record {
   loss = 0;
@@ -38,11 +38,11 @@ unit allocated = record {
   energies = record { net = 130; accepted = 110; lost = 0; limited = 20; executed = 0; asked = 0 };
 }
 
--- the share of buyer b of three with the weight 1, of 100
+-- the share of 100 kWh that buyer b has, of three buyers with the weight 1 each
 abbrev pub third : ℕ → ℕ
 third b = running_share 100 b 3 - running_share 100 (b - 1) 3
 
--- the worked hour: one plant with one unit sells 50 to one buyer
+-- the worked hour: one plant with one unit sells 50 kWh to one buyer
 abbrev pub header : Header
 header = record { ceiling = 1000; coefficient = 10000; base = 200; saving = 0; tariff = 0 }
 
@@ -58,7 +58,7 @@ readings =
     })
     ∷ (Use 1 200 ∷ [])
 
--- closing allocates 40 and leaves 10
+-- closing allocates 40 kWh and leaves 10 to run support
 abbrev pub found : Found
 found = record { amount = λ g i. 40; run = λ i. 10 }
 

@@ -51,7 +51,7 @@ reading_words =
 abbrev pub table : List Step → StepTable
 table steps = record { count = length steps; steps = steps ++ replicate (10 - length steps) (step 0 0) }
 
--- what reading some words comes to
+-- where reading a file of these words ends
 abbrev pub read : List ℕ → Outcome
 read ws = read_from (Ok (record { words = ws; place = 0 }))
 
@@ -77,7 +77,7 @@ small = record {
   figures = record { billed = 133; committed = 50; unassigned = 4 };
 }
 
--- a table whose rows of each kind are all entered
+-- a table with as many rows of each kind as there is room for
 abbrev pub full : Table
 full = record {
   plants = record { count = 32; rows = [] };
@@ -135,7 +135,7 @@ pub record FileExamples : Type 0 where
   pub steps_line : line (Steps Price) ≡ codes "R O 9 100"
   -- each row of a full table has its line
   pub listed : map (λ kind. count_of kind full) (OfCompetitive ∷ OfGuaranteed ∷ OfPlants ∷ OfBuyers ∷ []) ≡ 128 ∷ 128 ∷ 32 ∷ 64 ∷ []
-  -- what is printed for a fault ends with a line feed
+  -- the line of a fault ends with a line feed
   pub shown : fault_line (record { cause = Ended; place = 100 }) ≡ codes "R F 12 100\n"
   pub unit_questions : unit_answer 1 1 small ∷ unit_answer 2 1 small ∷ unit_answer 1 2 small ∷ unit_answer 2 0 small ∷ unit_answer 3 1 small ∷ [] ≡ Ok (record { allocated = 40; billed = 131; payment = 28000 }) ∷ Ok (record { allocated = 1; billed = 2; payment = 3 }) ∷ Err NoUnit ∷ Err NoUnit ∷ Err NoUnit ∷ []
   pub plant_questions : plant_answer 1 small ∷ plant_answer 0 small ∷ plant_answer 2 small ∷ [] ≡ Ok (record { committed = 50; allocated = 41; run = 11; support = 21; rate = 350; cost = 9000 }) ∷ Err NoPlant ∷ Err NoPlant ∷ []

@@ -1,5 +1,5 @@
--- Sums whose fractions, dropped one by one, come to a kWh more or less than dropped once; and the kWh whose price the rest of
--- the billed energy has.
+-- Sums whose fractions, dropped one by one, come to a kWh more or less than dropped once; and the kWh whose price the
+-- rest of the billed energy has.
 use Rattle.std.specs.Prelude.{◌≡◌, ℕ, ◌*◌, List, [], ◌∷◌, negsuc, cond, ◌==◌}
 use Rattle.curves.specs.Steps.{step_price}
 use Rattle.curves.specs.declared.steps.Step.{Step}
@@ -19,7 +19,7 @@ use Rattle.table.specs.declared.readings.Reading.TheVariants.{Competitive, Guara
 use Rattle.book.specs.Law.{entered, metered}
 use Rattle.worked_hour.specs.Examples.{step}
 
--- a unit of a plant's loss, with an allocated amount, net, accepted and lost energy, and what was made under a technical limit
+-- a unit by its plant's loss, its allocated amount, and its net, accepted, lost and UL energy
 abbrev pub unit : ℕ → ℕ → ℕ → ℕ → ℕ → ℕ → PaidUnit
 unit loss allocated net accepted lost limited = record {
   loss = loss;
@@ -28,7 +28,7 @@ unit loss allocated net accepted lost limited = record {
   energies = record { net = net; accepted = accepted; lost = lost; limited = limited; executed = 0; asked = 0 };
 }
 
--- a unit that was asked for and made 8, of which internal consumption and loss each leave four fifths
+-- a unit whose plant asked (α is 1), with executed gross energy 8; internal consumption and loss each leave four fifths
 abbrev pub asked : PaidUnit
 asked = record {
   loss = 2000;
@@ -63,7 +63,7 @@ steep_parts u =
 abbrev pub small_units : List Entry
 small_units = AddPlant 2000 ∷ AddCompetitive 1 8 2000 ∷ AddGuaranteed 1 1 8 2000 0 ∷ []
 
--- one offer
+-- one offer, for the one unit of either group
 abbrev pub offers : List (ℕ → ℕ)
 offers = (λ kwh. 300) ∷ []
 
@@ -74,12 +74,12 @@ limit_in_group g = (group_in g (λ f. f) offers 1 (entered small_units)).limit 0
 abbrev pub limit_in_table : ℕ → ℕ
 limit_in_table g = (plant_group (λ f. f) offers 1 2000 (table_of g (after_entries small_units empty_table))).limit 0
 
--- a plant with a unit of each group, which sells 40
+-- a plant with a unit of each group, which sells 40 kWh
 abbrev pub entries : List Entry
 entries = AddPlant 500 ∷ AddBuyer 0 ∷ AddCompetitive 1 30 0 ∷ AddGuaranteed 1 20 20 0 0 ∷ Commit 1 1 40 ∷ []
 
--- Readings of both by active energy, with 30 and 10 of type 6. The mark is set for the competitive unit alone, so that its 30
--- don't count.
+-- Readings of both units by P_Act, with deviations of type 6 of 30 and 10. The maintenance mark is set for the
+-- competitive unit alone, so its 30 don't count.
 abbrev pub readings : ℕ → ℕ → List Reading
 readings one two =
     Competitive 1 (record {
@@ -92,7 +92,7 @@ readings one two =
       control = record { p_act = two; type2 = 0; type3 = 0; type5 = 0; type6 = 10; type8 = 0; day = 2; minute = 780 };
     }) ∷ []
 
--- the shares are within the limits
+-- each unit is allocated its group's share, which is within its limit
 abbrev pub found : Found
 found = record { amount = λ g i. cond (g == 1) 24 16; run = λ i. 0 }
 
@@ -100,16 +100,16 @@ abbrev pub book : ℕ → ℕ → Ledger
 book one two = ledger_in found (entered entries) (metered entries (readings one two))
 
 pub record FractionExamples : Type 0 where
-  -- accepted and lost 10 each: 19 and not 9 + 9 are left of them
+  -- accepted and lost energy of 10 each: together 19 are left of them, and not 9 + 9
   pub lost_ends : ends (unit 500 0 40 10 10 0) ≡ 19 ∷ 19 ∷ []
   pub lost_parts : parts (unit 500 0 40 10 10 0) ≡ 190 ∷ 0 ∷ 380 ∷ []
-  -- 20 less 10: 9 and not 19 - 9
+  -- 20 accepted less 10 UL: 9 are left, and not 19 - 9
   pub limited_ends : ends (unit 500 0 40 20 0 10) ≡ 9 ∷ 19 ∷ []
   pub limited_parts : parts (unit 500 0 40 20 0 10) ≡ 45 ∷ 145 ∷ 190 ∷ []
-  -- 10 and 30 less 20: 19 and not 9 + 28 - 19
+  -- 10 accepted and 30 lost less 20 UL: 19 are left, and not 9 + 28 - 19
   pub all_ends : ends (unit 500 0 60 10 30 20) ≡ 19 ∷ 38 ∷ []
   pub all_parts : parts (unit 500 0 60 10 30 20) ≡ 190 ∷ 551 ∷ 380 ∷ []
-  -- 5.12 and not 6, of which 4.8 are left
+  -- 5.12 of 8 are left; with the first fraction dropped too it would be 4.8 of 6
   pub asked_ends : ends asked ≡ 0 ∷ 5 ∷ []
   pub asked_parts : parts asked ≡ 0 ∷ 15 ∷ 1452 ∷ []
   pub limits : limit_in_group 1 ∷ limit_in_group 2 ∷ [] ≡ 5 ∷ 5 ∷ []
@@ -119,11 +119,11 @@ pub record FractionExamples : Type 0 where
   pub rest_parts : parts (rest 40) ≡ 1196 ∷ 612 ∷ 1260 ∷ []
   pub rest_by_steps : steep_parts (rest 40) ≡ 2310 ∷ 1180 ∷ 2520 ∷ []
   pub rest_raised : parts (rest 80) ≡ 0 ∷ 0 ∷ 10260 ∷ []
-  -- each unit's bill drops its fraction: 9 + 9 and not 19
+  -- each unit's bill drops its own fraction: 9 + 9, and not 19
   pub bills : sum_units (book 10 0) billed_unit ≡ 18
   pub over : plant_over (book 10 0) 0 ∷ hour_over (book 10 0) ∷ [] ≡ negsuc 21 ∷ negsuc 21 ∷ []
   pub hour : hour_figures (book 10 0) ≡ record { billed = 18; committed = 40; unassigned = 18 }
-  -- 10 and 10 are active: 19 of them are left, and not 9 + 9
+  -- active energies of 10 each: together 19 are left of them, and not 9 + 9
   pub active : day_in (book 10 0) 0 ≡ 21
   -- what one unit made over its amount covers what the other fell short of
   pub covered : day_in (book 60 0) 0 ∷ day_in (book 0 60) 0 ∷ [] ≡ 0 ∷ 0 ∷ []

@@ -103,7 +103,7 @@ pub record FullerHour : Type 0 where
   pub unit_three : unit_figures (pay 1 2 (book.unit 1 2)) (book.unit 1 2) ≡ record { allocated = 0; billed = 0; payment = 0 }
   pub guaranteed_one : unit_figures (pay 2 0 (book.unit 2 0)) (book.unit 2 0) ≡ record { allocated = 49; billed = 64; payment = 24400 }
   pub guaranteed_two : unit_figures (pay 2 1 (book.unit 2 1)) (book.unit 2 1) ≡ record { allocated = 38; billed = 83; payment = 20750 }
-  -- what it is billed over what it was allocated, and not over what it sold
+  -- what plant 2 is billed over what it was allocated, and not over what it sold
   pub over : plant_over book 1 ≡ pos 105
   pub plant_one : plant_figures header pay book 0 ≡ record { committed = 125; allocated = 125; run = 0; support = 76; rate = 717; cost = 54492 }
   pub plant_two : plant_figures header pay book 1 ≡ record { committed = 157; allocated = 120; run = 37; support = 118; rate = 602; cost = 78046 }

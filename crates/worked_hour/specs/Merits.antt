@@ -1,6 +1,5 @@
--- The amounts and the run support that the worked hours take for closing's are those of the merit order: a table that has them
--- has the law of a closed hour. So in each group of each plant they are the split of the derived share over the derived
--- limits.
+-- The amounts and the run support of the worked hours are those of the merit order: the law of a closed hour holds of a
+-- table that has them. So in each group of each plant they are the split of the derived share over the derived limits.
 use Rattle.std.specs.Prelude.{ℕ, ◌+◌, cond, List, [], ◌∷◌, map, ◌==◌, slice_index}
 use Rattle.std.specs.List.{range_with_len}
 use Rattle.curves.specs.Steps.{step_price}
@@ -22,7 +21,7 @@ use Rattle.worked_hour.specs.Examples.{step}
 use Rattle.worked_hour.specs.Hour as fuller
 use Rattle.worked_hour.specs.Sample as sample
 
--- the plants and the units of a history as closing leaves them, with what it found
+-- the plants and the units of accepted entries as closing leaves them, with these amounts and this run support
 abbrev pub closed_plants : Found → List Entry → List Plant
 closed_plants found h =
     map (λ i. record { loss = loss_in (i + 1) h; figures = closed_figures (sold_in (i + 1) h) (found.run i) }) (range_with_len 0 (plants_in h))
@@ -50,8 +49,8 @@ FoundByMerit offers1 offers2 entries found =
 abbrev pub offers_of : List (PriceRow (List Step) (List Step)) → List (List Step)
 offers_of rows = map (λ (r : PriceRow (List Step) (List Step)). r.offer) rows
 
--- Units 1, 3 and 4 of plant 2 offer at the same prices; unit 2 is of plant 1, and unit 5 is aside. Their share of 159 takes the
--- 60 kWh at 300, and of those at 400 the 50 of unit 1 and 49 of unit 3.
+-- Units 1, 3 and 4 of plant 2 offer at the same prices; unit 2 is of plant 1, and unit 5 is aside. Their share of 159
+-- takes the 60 kWh at 300, and of those at 400 the 50 of unit 1 and 49 of unit 3.
 abbrev pub entries : List Entry
 entries =
     AddPlant 0 ∷ AddPlant 0 ∷ AddBuyer 0

@@ -1,5 +1,5 @@
--- Hours with four different counts of plants, competitive units, guaranteed units and buyers: which numbers are there, what
--- the next row is numbered, when a table is full, and whose rows a number names.
+-- Hours with four different counts of plants, competitive units, guaranteed units and buyers: which numbers are there,
+-- what the next row is numbered, when a table is full, and whose rows a number names.
 use Rattle.std.specs.Prelude.{◌≡◌, ℕ, ◌-◌, List, [], ◌∷◌, ◌++◌, length, map, replicate, cond, ◌==◌, Ok}
 use Rattle.settling.specs.Derived.{Found, ledger_in}
 use Rattle.settling.specs.Figures.{bought_by}
@@ -63,13 +63,13 @@ named v =
     ∷ (λ n. Correct 1 n 0) ∷ (λ n. PutAside 1 n) ∷ (λ n. TakeBack 1 n)
     ∷ (λ n. Correct 2 n 0) ∷ (λ n. PutAside 2 n) ∷ (λ n. TakeBack 2 n) ∷ [])
 
--- and what readings are told, of a competitive unit, a guaranteed unit and a buyer
+-- what readings that name the numbers 0 to 5 are told: of a competitive unit, a guaranteed unit and a buyer
 abbrev pub read : View → List (List ℕ)
 read v =
     map (λ (reading : ℕ → Reading). map (λ n. number (reading_rows v (reading n))) numbers)
     ((λ n. Competitive n blank) ∷ (λ n. guaranteed n 0 0 0 0) ∷ (λ n. Use n 0) ∷ [])
 
--- and questions of a settled hour, about a plant, a buyer and a unit of each group
+-- what questions about the numbers 0 to 5 are told: about a plant, a buyer and a unit of each group
 abbrev pub asked : Table → List (List ℕ)
 asked t =
     map (λ n. told (plant_answer n t)) numbers ∷ map (λ n. told (buyer_answer n t)) numbers
@@ -79,7 +79,8 @@ asked t =
 abbrev pub up_to : ℕ → ℕ → List ℕ
 up_to refusal count = refusal ∷ replicate count 0 ++ replicate (5 - count) refusal
 
--- Numbers are looked up among so many plants, competitive units, guaranteed units and buyers, and so are those of the table.
+-- Each number is looked up among so many plants, competitive units, guaranteed units or buyers, by the entries and by
+-- the table.
 abbrev pub Among : List Entry → ℕ → ℕ → ℕ → ℕ → Type 0
 Among entries plants competitive guaranteed buyers =
     (named (view_in (entered entries))
@@ -93,7 +94,7 @@ Among entries plants competitive guaranteed buyers =
 abbrev pub one_more : ℕ → List Entry
 one_more plant = AddPlant 0 ∷ AddCompetitive plant 0 0 ∷ AddGuaranteed plant 0 0 0 0 ∷ AddBuyer 0 ∷ Commit 1 1 1 ∷ []
 
--- what these answer, by the entries and by the table
+-- what these further rows answer, by the entries and by the table
 abbrev pub Next : List Entry → List ℕ → Type 0
 Next entries answers =
     (map (λ e. answer_in e (entered entries)) (one_more 1) ≡ map Ok answers)
@@ -130,7 +131,7 @@ mixed =
     ∷ AddPlant 900 ∷ AddBuyer 50 ∷ AddBuyer 60 ∷ AddGuaranteed 4 61 62 63 0 ∷ AddPlant 1100
     ∷ Commit 1 5 100 ∷ Commit 5 1 20 ∷ Commit 2 5 3 ∷ Commit 5 4 400 ∷ Commit 1 2 7 ∷ []
 
--- a unit's plant, that plant's loss, and what else tells one unit from another
+-- a unit's plant, that plant's loss, the unit's internal consumption and β
 abbrev pub marks : UnitCase → List ℕ
 marks u = u.plant ∷ u.loss ∷ u.internal ∷ u.feeds ∷ []
 
@@ -140,7 +141,7 @@ Marked g places units =
     (map (λ i. marks ((ledger_in nothing (entered mixed) []).unit g i)) places ≡ units)
     × (map (λ i. marks ((ledger_of (table mixed)).unit g i)) places ≡ units)
 
--- four offers
+-- offers for four units
 abbrev pub offers : List (ℕ → ℕ)
 offers = replicate 4 (λ kwh. 300)
 
@@ -172,7 +173,7 @@ pub record NumberExamples : Type 0 where
   pub room_for_commitments : each (seen 32 128 128 64 767) (one_more 1) ≡ 4 ∷ 4 ∷ 4 ∷ 4 ∷ 0 ∷ []
   -- what the plant has sold, and not what the buyer bought or what a plant of the buyer's number sold
   pub sold_by_plant : each (seen 3 0 0 3 0) (Commit 1 2 1 ∷ Commit 2 1 1 ∷ Commit 3 2 20000000 ∷ []) ≡ 0 ∷ 7 ∷ 0 ∷ []
-  -- losses and units by their numbers
+  -- the losses of plants and buyers, and what marks each unit, by their numbers
   pub losses : map (λ p. loss_in p (entered mixed)) numbers ≡ 0 ∷ 200 ∷ 500 ∷ 700 ∷ 900 ∷ 1100 ∷ []
   pub table_losses : map (λ i. (plant_at (table mixed) i).loss) numbers ≡ 200 ∷ 500 ∷ 700 ∷ 900 ∷ 1100 ∷ 0 ∷ []
   pub buyer_losses : map (λ b. buyer_loss_in b (entered mixed)) numbers ≡ 0 ∷ 10 ∷ 30 ∷ 40 ∷ 50 ∷ 60 ∷ []

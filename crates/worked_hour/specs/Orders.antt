@@ -1,5 +1,5 @@
--- Put aside, correct and take back in whatever order: what units then are, by the accepted entries and by the table alike,
--- and what they count at closing.
+-- Put aside, correct and take back in whatever order: what units then are, by the accepted entries and by the table
+-- alike, and what they count at closing.
 use Rattle.std.specs.Prelude.{◌≡◌, ℕ, ◌-◌, Bool, true, false, List, [], ◌∷◌, ◌++◌, map, Some, None}
 use Rattle.settling.specs.Ledger.{table_of}
 use Rattle.table.specs.Closing.{plant_group, declared_by, terms_of}
@@ -38,7 +38,7 @@ by_table entries g number = terms_of (unit_at (table_of g (table entries)) (numb
 abbrev pub terms : UnitRecord → ℕ × Bool
 terms u = (u.declared, u.aside)
 
--- the terms of a unit of a group, and of competitive unit 1
+-- the terms of a unit of a group, and of competitive unit 1, by the entries and by the table
 abbrev pub Has : List Entry → ℕ → ℕ → ℕ → Bool → Type 0
 Has entries g number declared aside =
     (terms (by_entries entries g number) ≡ (declared, aside)) × (terms (by_table entries g number) ≡ (declared, aside))
@@ -87,12 +87,12 @@ counted_by_table t =
     ++ map (plant_group (λ f. f) offers 2 (plant_at t 1).loss t.guaranteed).limit (0 ∷ 1 ∷ [])
     ++ declared_by 2 2 t.competitive ∷ declared_by 2 2 t.guaranteed ∷ []
 
--- the same by the entries and by the table
+-- these limits and energies, by the entries and by the table
 abbrev pub Count : List Entry → List ℕ → Type 0
 Count entries figures = (counted_by_entries entries ≡ figures) × (counted_by_table (table entries) ≡ figures)
 
 pub record OrderExamples : Type 0 where
-  -- one of each, in each order
+  -- one put aside, one correction and one take back, in each order
   pub aside_correct_back : IsFirst (PutAside 1 1 ∷ Correct 1 1 60 ∷ TakeBack 1 1 ∷ []) 60 false
   pub aside_back_correct : IsFirst (PutAside 1 1 ∷ TakeBack 1 1 ∷ Correct 1 1 60 ∷ []) 60 false
   pub correct_aside_back : IsFirst (Correct 1 1 60 ∷ PutAside 1 1 ∷ TakeBack 1 1 ∷ []) 60 false

@@ -28,7 +28,7 @@ entries =
 abbrev pub control : ℕ → ℕ → Control
 control p_act day = record { p_act = p_act; type2 = 0; type3 = 0; type5 = 0; type6 = 0; type8 = 0; day = day; minute = 0 }
 
--- net energy, accepted energy, energy made under a technical limit, active energy and the opportunity payment
+-- a competitive reading by net, accepted and UL energy, P_Act and the opportunity payment
 abbrev pub competitive : ℕ → ℕ → ℕ → ℕ → ℕ → UnitReading
 competitive net accepted limited p_act opportunity = record {
   energies = record { net = net; accepted = accepted; lost = 0; limited = limited; executed = 0; asked = 0 };
@@ -39,7 +39,8 @@ competitive net accepted limited p_act opportunity = record {
 abbrev pub guaranteed : ℕ → ℕ → ℕ → GuaranteedReading
 guaranteed net p_act day = record { net = net; control = control p_act day }
 
--- competitive unit 1, guaranteed unit 1 and buyer 1 are read three times, in between, lower and then higher
+-- competitive unit 1, guaranteed unit 1 and buyer 1 are read three times, with the least net energy or use in the
+-- second reading; the last six readings are turned down
 abbrev pub readings : List Reading
 readings =
     Guaranteed 1 (guaranteed 50 10 0) ∷ Use 1 100 ∷ Competitive 1 (competitive 60 50 0 40 3) ∷ Use 2 40
@@ -55,7 +56,7 @@ read = metered entries readings
 abbrev pub table : Table
 table = after_readings readings (after_entries entries empty_table)
 
--- a guaranteed unit's reading has no other energy than its net energy, and no adjustment
+-- a guaranteed unit's reading as it is kept: with no energy but its net energy, and no adjustment
 abbrev pub kept : ℕ → ℕ → UnitReading
 kept net p_act = record {
   energies = record { net = net; accepted = 0; lost = 0; limited = 0; executed = 0; asked = 0 };
@@ -68,7 +69,7 @@ abbrev pub IsRead : ℕ → ℕ → Option UnitReading → Type 0
 IsRead g number reading =
     (last_reading g number read ≡ reading) × ((unit_at (table_of g table) (number - 1)).reading ≡ reading)
 
--- all is allocated
+-- each unit is allocated 10, and nothing is run support
 abbrev pub found : Found
 found = record { amount = λ g i. 10; run = λ i. 0 }
 
@@ -90,7 +91,7 @@ pub record ReadingExamples : Type 0 where
   pub guaranteed_one : IsRead 2 1 (Some (kept 30 6))
   pub guaranteed_two : IsRead 2 2 (Some (kept 7 3))
   pub guaranteed_three : IsRead 2 3 None
-  -- a use of 0 is a use
+  -- a buyer's last use counts, 0 too
   pub uses : map (λ b. last_use b read) (0 ∷ 1 ∷ 2 ∷ 3 ∷ 4 ∷ []) ≡ None ∷ Some 80 ∷ Some 25 ∷ Some 0 ∷ None ∷ []
   pub uses_of_table : map (λ b. (buyer_at table b).used) (0 ∷ 1 ∷ 2 ∷ 3 ∷ []) ≡ Some 80 ∷ Some 25 ∷ Some 0 ∷ None ∷ []
   -- the last readings are billed, that of the unit aside among them
@@ -99,7 +100,7 @@ pub record ReadingExamples : Type 0 where
   pub all_billed : sum_units book billed_unit ≡ 84
   pub active : sum_units book active_unit ≡ 29
   pub opportunity : sum_units book opportunity_unit ≡ 1
-  -- 42 allocated, 27 of the active energy are left at the reference point
+  -- 42 kWh are allocated (all that is sold), and of the active energy 27 are left at the reference point
   pub day : day_in book 0 ≡ 15
   pub weights : map (weight_in book) (0 ∷ 1 ∷ 2 ∷ []) ≡ 80 ∷ 27 ∷ 0 ∷ []
   pub table_weights : map (weight_in (ledger_of table)) (0 ∷ 1 ∷ 2 ∷ []) ≡ 80 ∷ 27 ∷ 0 ∷ []

@@ -1,5 +1,5 @@
--- The table of refusals by examples: both sides of each limit, and where two rows apply. A number is that of the refusal,
--- and 0 where the call is accepted.
+-- The table of refusals by examples: both sides of each limit, and where two rows apply. A number is that of the
+-- refusal, and 0 where the call is accepted.
 use Rattle.std.specs.Prelude.{◌≡◌, ℕ, true, false, List, [], ◌∷◌, map, Some, None, Ok, Err, Option, Result}
 use Rattle.curves.specs.Refusals.{table_made, tariff_made, refusal_number as curve_number}
 use Rattle.curves.specs.declared.refusals.CurveRefusal.{CurveRefusal}
@@ -20,7 +20,7 @@ use Rattle.table.specs.declared.refusals.BookRefusal.{BookRefusal}
 use Rattle.table.specs.declared.refusals.BookRefusal.TheVariants.{NoPlant}
 use Rattle.table.specs.declared.refusals.UnitRefusal.TheVariants.{Book}
 
--- the number of the row that turns a call down
+-- the number of the row that turns a call down, or 0 where none does
 abbrev pub number : Option BookRefusal → ℕ
 number None = 0
 number (Some refusal) = refusal_number refusal
@@ -33,7 +33,7 @@ abbrev pub curve_told : {A : Type 0} → Result A CurveRefusal → ℕ
 curve_told (Ok x) = 0
 curve_told (Err refusal) = curve_number refusal
 
--- an hour with so many rows of each kind, in which each plant has sold so much
+-- an hour with so many plants and buyers, units of each group and commitments, in which each plant has sold so much
 abbrev pub seen : ℕ → ℕ → ℕ → ℕ → View
 seen each units commitments sold = record {
   plants = each;
@@ -62,7 +62,7 @@ header ceiling coefficient base saving tariff =
 abbrev pub each_header : List Header → List ℕ
 each_header headers = map (λ h. told (checked h)) headers
 
--- a reading of unit 1 by its energies and its mark, and one by its control values
+-- a reading of unit 1 by its energies and α, and one by its adjustments and its control part
 abbrev pub energies : ℕ → ℕ → ℕ → ℕ → ℕ → ℕ → Reading
 energies net accepted lost limited executed asked = Competitive 1 (record {
   energies = record { net = net; accepted = accepted; lost = lost; limited = limited; executed = executed; asked = asked };

@@ -24,18 +24,18 @@ use Rattle.worked_hour.specs.Examples.{step, offer, cost}
 use Rattle.worked_hour.specs.File.{full}
 use Rattle.worked_hour.specs.Refused.{guaranteed, told}
 
--- a history of so many plants, and one of so many buyers
+-- accepted entries of so many plants, and of so many buyers
 abbrev pub plants : ℕ → List Entry
 plants count = replicate count (AddPlant 0)
 
 abbrev pub buyers : ℕ → List Entry
 buyers count = replicate count (AddBuyer 0)
 
--- a history of one plant, one buyer and so many commitments
+-- accepted entries of one plant, one buyer and so many commitments
 abbrev pub sales : ℕ → List Entry
 sales count = replicate count (Commit 1 1 2) ++ (AddBuyer 0 ∷ AddPlant 0 ∷ [])
 
--- 128 units of each group; one more was turned down
+-- accepted entries of 128 units of each group; the 129th of either was turned down
 abbrev pub crowd : List Entry
 crowd = entered (units 129 129)
 
@@ -56,7 +56,7 @@ abbrev pub adding : List Entry
 adding =
     AddPlant 0 ∷ AddCompetitive 1 0 0 ∷ AddGuaranteed 1 0 0 0 0 ∷ AddBuyer 0 ∷ Commit 1 1 1 ∷ []
 
--- each unit is read, and the two past the last are turned down
+-- a reading of each unit, and of the one past the last of each group, which is turned down
 abbrev pub readings : List Reading
 readings = map (λ unit. energy unit 5) (range_with_len 1 129) ++ map (λ unit. guaranteed unit 3 0 0 0) (range_with_len 1 129)
 
@@ -75,7 +75,7 @@ abbrev pub pay : Pay
 pay = pay_by step_price step_price rows step_price (replicate 127 offer ++ (step 1 70 ∷ []) ∷ []) header
 
 pub record FullTables : Type 0 where
-  -- by what was accepted before
+  -- what calls answer by the accepted entries
   pub plant_33 : answer_in (AddPlant 0) (plants 31) ∷ answer_in (AddPlant 0) (plants 32) ∷ [] ≡ Ok 32 ∷ Err Full ∷ []
   pub buyer_65 : answer_in (AddBuyer 0) (buyers 63) ∷ answer_in (AddBuyer 0) (buyers 64) ∷ [] ≡ Ok 64 ∷ Err Full ∷ []
   pub commitment_769 : answer_in (Commit 1 1 2) (sales 767) ∷ answer_in (Commit 1 1 2) (sales 768) ∷ [] ≡ Ok 768 ∷ Err Full ∷ []
@@ -83,7 +83,7 @@ pub record FullTables : Type 0 where
   pub last_plant : map (λ entry. answer_in entry (plants 32)) (AddCompetitive 32 0 0 ∷ AddCompetitive 33 0 0 ∷ []) ≡ Ok 1 ∷ Err NoPlant ∷ []
   pub last_reading : map (reading_answer_in (view_in crowd)) (energy 128 1 ∷ energy 129 1 ∷ guaranteed 128 1 0 0 0 ∷ guaranteed 129 1 0 0 0 ∷ []) ≡ Ok 128 ∷ Err NoUnit ∷ Ok 128 ∷ Err NoUnit ∷ []
   pub last_use : map (reading_answer_in (view_in (buyers 64))) (Use 64 1 ∷ Use 65 1 ∷ []) ≡ Ok 64 ∷ Err NoBuyer ∷ []
-  -- by the table
+  -- what calls answer by the table
   pub nearly_full : map (λ entry. told (answer_of entry nearly)) adding ≡ 0 ∷ 0 ∷ 0 ∷ 0 ∷ 0 ∷ []
   pub all_full : map (λ entry. told (answer_of entry full)) adding ≡ 4 ∷ 4 ∷ 4 ∷ 4 ∷ 4 ∷ []
   pub taken : (after_entry (AddCompetitive 1 0 0) nearly).competitive.count ∷ (after_entry (AddCompetitive 1 0 0) full).competitive.count ∷ [] ≡ 128 ∷ 128 ∷ []

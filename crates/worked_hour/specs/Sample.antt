@@ -1,5 +1,5 @@
--- The sample hour of two plants: units that share a price, one put aside, one taken back, one corrected, one guaranteed. Each
--- figure is computed by hand.
+-- The sample hour of two plants: units that share a price, one put aside, one taken back, one corrected, one
+-- guaranteed. Each figure is computed by hand.
 use Rattle.std.specs.Prelude.{◌≡◌, ℕ, cond, List, [], ◌∷◌, map, slice_index, pos, negsuc, ◌==◌}
 use Rattle.curves.specs.Steps.{step_price}
 use Rattle.curves.specs.declared.steps.Step.{Step}
@@ -28,7 +28,7 @@ entries =
     ∷ Commit 1 1 80 ∷ Commit 1 2 20 ∷ Commit 2 1 35
     ∷ Correct 1 1 60 ∷ PutAside 1 4 ∷ PutAside 2 1 ∷ TakeBack 2 1 ∷ []
 
--- a buyer's second use stands in place of the first
+-- the second use of buyer 2 stands in place of the first
 abbrev pub readings : List Reading
 readings =
     Competitive 1 (record {

@@ -21,7 +21,7 @@ texts =
     codes "refused with 1" ∷ codes "refused with 2" ∷ codes "refused with 3" ∷ codes "refused with 4" ∷ codes "refused with 5"
     ∷ codes "refused with 6" ∷ codes "refused with 7" ∷ codes "refused with 9" ∷ codes "refused with 10" ∷ codes "refused with 11" ∷ []
 
--- 24 bytes of a header, and an open and a closed hour with a plant
+-- the words of a header (24 bytes), of an open hour with a plant, and of that hour once closed
 abbrev pub opened : List ℕ
 opened = head 1 5 ∷ 400 ∷ 9000 ∷ 200 ∷ 70 ∷ 0 ∷ []
 
@@ -49,11 +49,12 @@ pub record RefusalTexts : Type 0 where
   pub step_lines : map (λ refusal. line (BySteps refusal)) (Steps ∷ OverPrice ∷ []) ≡ codes "R O 8 100" ∷ codes "R O 9 100" ∷ []
   pub file_numbers : map cause_number (Ended ∷ ShortBuffer ∷ Length ∷ Malformed ∷ Misplaced ∷ []) ≡ 12 ∷ 13 ∷ 14 ∷ 15 ∷ 16 ∷ []
   pub unit_causes : map unit_cause (Book Price ∷ Rows OverPrice ∷ Rows Steps ∷ []) ≡ ByBook Price ∷ BySteps OverPrice ∷ BySteps Steps ∷ []
-  -- before a header, on an open and on a closed hour
+  -- records that may not stand before a header, on an open hour and on a closed one
   pub unopened : map fault_of ((head 2 1 ∷ 0 ∷ []) ∷ (head 3 4 ∷ 1 ∷ 40 ∷ 0 ∷ 0 ∷ []) ∷ (head 10 0 ∷ []) ∷ (head 13 2 ∷ 1 ∷ 5 ∷ []) ∷ (head 14 0 ∷ []) ∷ []) ≡ replicate 5 (at 0 Misplaced)
   pub on_open : map (λ more. fault_of (planted ++ more)) ((head 1 5 ∷ 0 ∷ 0 ∷ 0 ∷ 0 ∷ 0 ∷ []) ∷ (head 13 2 ∷ 1 ∷ 5 ∷ []) ∷ (head 12 10 ∷ replicate 10 0) ∷ (head 11 18 ∷ replicate 18 0) ∷ (head 14 0 ∷ []) ∷ []) ≡ replicate 5 (at 32 Misplaced)
   pub on_closed : map (λ more. fault_of (closed ++ more)) ((head 1 5 ∷ 0 ∷ 0 ∷ 0 ∷ 0 ∷ 0 ∷ []) ∷ (head 2 1 ∷ 0 ∷ []) ∷ (head 3 4 ∷ 1 ∷ 40 ∷ 0 ∷ 0 ∷ []) ∷ (head 5 1 ∷ 0 ∷ []) ∷ (head 9 2 ∷ 1 ∷ 1 ∷ []) ∷ (head 10 0 ∷ []) ∷ []) ≡ replicate 6 (at 36 Misplaced)
-  -- a record of the wrong count that may not stand there either, of no kind, or of kind 15; a surplus value at its own place
+  -- a record of the wrong count that may not stand there either, of no kind, or of kind 15; a surplus value at its own
+  -- place
   pub malformed_first : map fault_of ((head 2 2 ∷ 0 ∷ 0 ∷ []) ∷ (head 15 0 ∷ []) ∷ (head 14 1 ∷ 0 ∷ []) ∷ (head 3 3 ∷ 1 ∷ 40 ∷ 0 ∷ []) ∷ (head 3 2 ∷ 1 ∷ 40 ∷ []) ∷ (head 3 0 ∷ []) ∷ (7 ∷ []) ∷ []) ≡ replicate 7 (at 0 Malformed)
   pub no_head : (value : ℕ) (rest : List ℕ) → value < 268435456 → first (value ∷ rest) ≡ Err Malformed
   pub surplus : fault_of (planted ++ 7 ∷ head 6 3 ∷ 9 ∷ 9 ∷ 0 ∷ []) ∷ fault_of (planted ++ head 6 3 ∷ 9 ∷ 9 ∷ 0 ∷ 7 ∷ []) ∷ fault_of (closed ++ head 14 0 ∷ 7 ∷ []) ∷ [] ≡ at 32 Malformed ∷ at 32 (ByBook NoPlant) ∷ at 40 Malformed ∷ []

@@ -15,7 +15,7 @@ use Rattle.settling.specs.Figures.{hour_figures}
 use Rattle.book.specs.Law.{entered, metered}
 use Rattle.worked_hour.specs.Examples.{step, offer, cost, unit, entries, readings, found}
 
--- a unit with 500 hundredths of a percent of internal consumption that made 125, asked or not
+-- a unit with an internal consumption of 500 hundredths of a percent and executed gross energy 125, by α
 abbrev pub executed_unit : ℕ → PaidUnit
 executed_unit asked = record {
   loss = 0;
@@ -24,7 +24,7 @@ executed_unit asked = record {
   energies = record { net = 130; accepted = 70; lost = 20; limited = 10; executed = 125; asked = asked };
 }
 
--- a unit that is billed less than was accepted
+-- a unit that is billed less than its accepted energy
 abbrev pub little : PaidUnit
 little = record {
   loss = 0;
@@ -33,7 +33,7 @@ little = record {
   energies = record { net = 50; accepted = 70; lost = 20; limited = 10; executed = 0; asked = 0 };
 }
 
--- a control reading of day 2 with another digit for each energy
+-- a control part of maintenance day 2 by its exit minute, with a digit of its own for each energy
 abbrev pub control : ℕ → Control
 control minute =
     record { p_act = 1; type2 = 10; type3 = 100; type5 = 1000; type6 = 10000; type8 = 100000; day = 2; minute = minute }
@@ -43,13 +43,13 @@ abbrev pub falling : List Step
 falling = step 10 300 ∷ step 0 200 ∷ step 3000000 20000000 ∷ []
 
 pub record SmallExamples : Type 0 where
-  -- one fraction is dropped
+  -- one fraction is dropped, once
   pub reference : at_reference 2000 2 ≡ 1
   pub limit_once : net_of 2000 2000 8 ≡ 5
   pub weight_is : weight_of 2000 3 ≡ 3
   pub raised : raised_price 1000 (λ k. 3) 1 ≡ 3
   pub readiness : support_cost 500 10 7 350 9000 200 ≡ 7844
-  -- numbers past their limits
+  -- numbers past their limits are read as the limits
   pub losses : kept 2001 ≡ 8000
   pub weight_loss : weight_of 2500 100 ≡ 120
   pub net_read : bill_of 0 2000001 ≡ 2000000
@@ -78,9 +78,9 @@ pub record SmallExamples : Type 0 where
   pub little_billed : sum_a little (step_price offer) ∷ sum_b little (step_price offer) (step_price cost) ∷ sum_c little (step_price offer) (step_price cost) 1000 ∷ [] ≡ 3000 ∷ 0 ∷ 0 ∷ []
   -- the lesser of two sums, and not the sum of the lesser prices
   pub as_wholes : sum_b (unit 40) (λ k. k) (λ k. 100) ≡ 2000
-  -- a guaranteed unit with the marks 0, 1 and 2
+  -- a guaranteed unit with β 0, 1 and 2
   pub feeding : map (λ feeds. guaranteed_payment 50 (step_price offer) feeds 200) (0 ∷ 1 ∷ 2 ∷ []) ≡ 15000 ∷ 25000 ∷ 25000 ∷ []
-  -- marks, active energy, rates
+  -- the maintenance mark, active energy, rates of support
   pub marked_days : marked 0 781 ∷ marked 1 0 ∷ marked 3 781 ∷ [] ≡ false ∷ true ∷ false ∷ []
   pub active : map (λ minute. active_of (control minute)) (780 ∷ 781 ∷ []) ≡ 111111 ∷ 101111 ∷ []
   pub own_rate : rate_of 100 (pos 3) (pos 0) (pos 0) 7 ∷ rate_of 200 (pos 5) (pos 100) (pos 3) 7 ∷ [] ≡ 33 ∷ 40 ∷ []

@@ -16,7 +16,7 @@ ghost use Rattle.worked_hour.specs.Sample.{SampleHour};
 ghost use Rattle.worked_hour.specs.Spelled.{RefusalTexts};
 ghost use Rattle.worked_hour.specs.Values.{SmallExamples};
 
-// Its promise is that every worked example holds of the definitions.
+// Does nothing. What it promises is that each worked example holds of the definitions.
 pub(crate) fn worked_examples()
     ensures examples { WorkedExamples }
     ensures hour { FullerHour }

@@ -14,7 +14,7 @@ type WorkedTurn<'c> = Turn<'c, SteppedOffer, Tariff, SteppedOffer, SteppedCost, 
 
 const NO_OFFERS: [Tariff; 0] = [];
 
-/// What is printed of the hour.
+/// The figures of the hour, printed a line for each record.
 #[derive(Clone, Copy)]
 pub struct Figures {
     unit: UnitFigures,
