@@ -67,7 +67,7 @@ split_as : (g g' : Group) (share share' : ℕ) (amount : ℕ → ℕ) (left : �
 split_as g g' share share' amount left same shares split =
     subst (λ x. Split x share' amount left) same (subst (λ s. Split g s amount left) shares split)
 
--- so the law of a closed hour by offers is that by their prices
+-- the law of a closed hour by offers is that by their prices
 module _ {O P : Type 0} (prices1 : O → Prices) (offers1 : List O) (prices2 : P → Prices) (offers2 : List P) (h : List Entry) where
   shares_same : (share : ℕ → ℕ → ℕ) → share (length offers1) (length offers2) ≡ share (length (map prices1 offers1)) (length (map prices2 offers2))
   shares_same share =
@@ -96,7 +96,7 @@ module _ {O P : Type 0} (prices1 : O → Prices) (offers1 : List O) (prices2 : P
         covers = l.covers;
       }
 
--- and what units are paid by price rows is what they are paid by their prices
+-- what units are paid by price rows is what they are paid by their prices
 row_paid : {O C : Type 0} (offer : O → Prices) (cost : C → Prices) (ceiling : ℕ) (rows : List (PriceRow O C)) (i : ℕ) (u : PaidUnit) → row_payment offer cost ceiling rows i u ≡ row_payment (λ f. f) (λ f. f) ceiling (map (row_by offer cost) rows) i u
 row_paid offer cost ceiling [] i u = refl
 row_paid offer cost ceiling (r ∷ rs) zero u = refl

@@ -36,7 +36,7 @@ module _ (reading : Reading) (result : Result ℕ BookRefusal) (hour next : Clos
   pub read_made : CallMade (Read reading) (ClosedAt hour) (ClosedAt next) (answer_by result)
   read_made = record { follows = read_follows; stands = read_stands; book = λ name same. t.book ∙ same }
 
--- and is settled
+-- a closed hour is settled
 module _ (rows : PriceRows) (hour : ClosedHour) (next : SettledHour) (law : SettlesBy rows hour next) where
   settle_follows : (header : Header) (s : State) → HourOf header s (ClosedAt hour) → Done ≡ told (Settle rows) s
   settle_follows header (Open h) at = absurd at

@@ -1,5 +1,5 @@
--- What the accepted calls of an hour count for: which entry and which reading counts, each commitment once, and the row of the
--- table of refusals that turns a further call down. All of it is said by where calls stand among the accepted.
+-- What the accepted calls of an hour count for: which entry and which reading counts, each commitment once, and the row
+-- of the table of refusals that turns a further call down. All of it is said by where calls stand among the accepted.
 use Rattle.std.specs.Prelude.{◌≡◌, ℕ, ◌+◌, List, [], ◌∷◌, ◌++◌}
 use Rattle.allocation.specs.Groups.{sum_of}
 use Rattle.settling.specs.Figures.{volumes, bought_by}
@@ -16,8 +16,8 @@ use Rattle.table.specs.declared.readings.Reading.{Reading}
 abbrev pub bought_in : ℕ → List Entry → ℕ
 bought_in b h = bought_by b (commitments_of h)
 
--- What a buyer has bought: each commitment that names it counts once with its volume, and no other entry counts. All that
--- plants have sold and all that buyers have bought are the hour's commitments.
+-- What a buyer has bought: each commitment that names it counts once with its volume, and no other entry counts. All
+-- that plants have sold and all that buyers have bought are the hour's commitments.
 pub record EachBought (h : List Entry) : Type 0 where
   pub own : (later before : List Entry) (p b v : ℕ) → h ≡ later ++ (Commit p b v ∷ before) → bought_in b h ≡ bought_in b (later ++ before) + v
   pub others : (later before : List Entry) (e : Entry) (b : ℕ) → h ≡ later ++ (e ∷ before) → ((p v : ℕ) → (e ≡ Commit p b v) → ⊥) → bought_in b h ≡ bought_in b (later ++ before)
@@ -25,7 +25,7 @@ pub record EachBought (h : List Entry) : Type 0 where
   pub all_sold : sum_of (plants_in h) (λ i. sold_in (i + 1) h) ≡ volumes (commitments_of h)
   pub all_bought : sum_of (buyers_in h) (λ i. bought_in (i + 1) h) ≡ volumes (commitments_of h)
 
--- of an hour with these accepted entries and readings, and of what a further call would be told
+-- what accepted entries and readings count for, and what a further call would be told
 pub record CallsCount (h : List Entry) (rs : List Reading) : Type 0 where
   pub entries : EntriesCount h
   pub bought : EachBought h

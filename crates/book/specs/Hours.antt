@@ -1,5 +1,5 @@
--- What an hour stands for: the calls that it has accepted. Rows of offers stand there as lists of prices, a function of the
--- kWh for each.
+-- What an hour stands for: the calls that it has accepted. Rows of offers stand there as lists of prices, a function of
+-- the kWh for each.
 use Rattle.std.specs.Prelude.{◌≡◌, ℕ, List, [], map}
 use Rattle.settling.specs.Figures.{Pay, pay_by}
 use Rattle.settling.specs.declared.header.Header.{Header}
@@ -15,6 +15,7 @@ use Rattle.book.specs.declared.closed.ClosedHour.{ClosedHour}
 use Rattle.book.specs.declared.open.OpenHour.{OpenHour}
 use Rattle.book.specs.declared.settled.SettledHour.{SettledHour}
 
+-- the price of each kWh
 abbrev pub Prices : Type 0
 Prices = ℕ → ℕ
 
@@ -23,6 +24,7 @@ pub record Offers : Type 0 where
   pub competitive : List Prices
   pub guaranteed : List Prices
 
+-- the offers of both groups as lists of prices
 abbrev pub offers_by : {O G : Type 0} → (O → Prices) → List O → (G → Prices) → List G → Offers
 offers_by prices1 offers1 prices2 offers2 =
     record { competitive = map prices1 offers1; guaranteed = map prices2 offers2 }
@@ -32,6 +34,7 @@ pub record PriceRows : Type 0 where
   pub competitive : List (PriceRow Prices Prices)
   pub guaranteed : List Prices
 
+-- a price row, and those of both groups, as prices
 abbrev pub row_by : {O C : Type 0} → (O → Prices) → (C → Prices) → PriceRow O C → PriceRow Prices Prices
 row_by offer cost row = record { offer = offer row.offer; cost = cost row.cost }
 
@@ -43,7 +46,7 @@ rows_by offer cost rows guaranteed offers =
 abbrev pub pay_in : PriceRows → Header → Pay
 pay_in rows header = pay_by (λ f. f) (λ f. f) rows.competitive (λ f. f) rows.guaranteed header
 
--- the law of a closed hour, and that of a settled one, by such offers and rows
+-- by such offers and rows: the law of a closed hour, that of a settled one, and that no other figures meet it
 abbrev pub ClosingLawBy : Offers → List Entry → Table → Type 0
 ClosingLawBy offers h t = ClosingLaw (λ f. f) offers.competitive (λ f. f) offers.guaranteed h t
 
@@ -68,7 +71,8 @@ pub record ClosedTable (offers : Offers) (h : List Entry) (rs : List Reading) (t
   pub metered : Metered rs t
   pub law : ClosingLawBy offers h t
 
--- a table holds them still, and the law of a settled hour, the rows that were entered, and the only figures
+-- A table holds accepted entries, accepted readings since closing, and the law of a settled hour, with the rows that
+-- were entered and the only figures that meet that law.
 pub record SettledTable (header : Header) (offers : Offers) (rows : PriceRows) (h : List Entry) (rs : List Reading) (t : Table) : Type 0 where
   pub proper : Proper h
   pub stands : Stands h t
@@ -77,7 +81,8 @@ pub record SettledTable (header : Header) (offers : Offers) (rows : PriceRows) (
   pub entered : RowsOf h t
   pub only : OnlyFiguresBy header offers rows h rs t
 
--- an hour of a header stands for these calls
+-- An hour stands for these calls: an open one for entries, a closed one for offers and readings too, and a settled one
+-- for the price rows as well. An open and a closed hour have the header that was given.
 pub record IsOpen (given : Header) (h : List Entry) (hour : OpenHour) : Type 0 where
   pub header : hour.header ≡ given
   pub table : OpenTable h hour.book.now.table

@@ -1,5 +1,5 @@
--- The law over runs: what holds of an hour after any list of calls, by the accepted calls alone. Amounts, run support, net
--- purchases and unassigned energy are the book's own; limits, shares, commitments and billed energy are derived.
+-- The law over runs: what holds of an hour after any list of calls, by the accepted calls alone. Amounts, run support,
+-- net purchases and unassigned energy are the book's own; limits, shares, commitments and billed energy are derived.
 use Rattle.table.specs.Places.{unit_at, plant_at, buyer_at}
 use Rattle.std.specs.Prelude.{◌≡◌, ℕ, ◌<◌, ◌≤◌, List, [], length, take, slice_index_or}
 use Rattle.settling.specs.Derived.{ledger_in, found_in, NetsAddUp}
@@ -28,14 +28,16 @@ pub record EntriesJudgedFrom (h entries : List Entry) (before after : Answers) :
   pub answered : (i : ℕ) → i < length entries → i < length before → answer_at after i ≡ answer_in (slice_index_or entries i (AddPlant 0)) (accepted h (take i entries))
   pub others : (i : ℕ) → length entries ≤ i → answer_at after i ≡ answer_at before i
 
+-- the same of a list that begins with an hour's first entry
 abbrev pub EntriesJudged : List Entry → Answers → Answers → Type 0
 EntriesJudged entries before after = EntriesJudgedFrom [] entries before after
 
--- each reading of a list is answered by the entries accepted before
+-- each reading of a list is answered by the entries accepted before closing
 pub record ReadingsJudgedBy (h : List Entry) (readings : List Reading) (before after : Answers) : Type 0 where
   pub answered : (i : ℕ) → i < length readings → i < length before → answer_at after i ≡ reading_answer_in (view_in h) (slice_index_or readings i (Use 0 0))
   pub others : (i : ℕ) → length readings ≤ i → answer_at after i ≡ answer_at before i
 
+-- the same of readings after a list of entries
 abbrev pub ReadingsJudged : List Entry → List Reading → Answers → Answers → Type 0
 ReadingsJudged entries readings before after = ReadingsJudgedBy (entered entries) readings before after
 

@@ -1,4 +1,5 @@
--- Lists of calls that are in the order of an hour: what is accepted of them, and what holds of the hour that they lead to.
+-- Lists of calls that are in the order of an hour: what is accepted of them, and what holds of the hour that they lead
+-- to.
 use Rattle.std.specs.Prelude.{List}
 use Rattle.settling.specs.Figures.{Pay}
 use Rattle.settling.specs.declared.header.Header.{Header}
@@ -35,7 +36,7 @@ abbrev pub RunOnlyFigures : {O G : Type 0} → (O → Prices) → (G → Prices)
 RunOnlyFigures prices1 prices2 calls header pay t =
     OnlyFigures prices1 calls.offers.now prices2 calls.guaranteed.now header pay (entries_in calls) (readings_in calls) t
 
--- the hour stands for the lists' calls
+-- a closed and a settled hour stand for the calls of the lists
 abbrev pub RunClosed : {O G : Type 0} → (O → Prices) → (G → Prices) → Calls O G → Header → ClosedHour → Type 0
 RunClosed prices1 prices2 calls header hour =
     IsClosed header (offers_in prices1 prices2 calls) (entries_in calls) (readings_in calls) hour

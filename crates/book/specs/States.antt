@@ -1,5 +1,5 @@
--- Any list of calls of an hour, in whatever order: which state they lead to and what each is told, by the calls accepted
--- before it. No table is looked at.
+-- Any list of calls of an hour, in whatever order: which state they lead to and what each is told, by the calls
+-- accepted before it. No table is looked at.
 use Rattle.std.specs.Prelude.{◌≡◌, ℕ, ◌<◌, List, [], ◌∷◌, length, take, map, Some, None, Ok, Err, Result, slice_index_or}
 use Rattle.std.specs.Borrow.{GName}
 use Rattle.settling.specs.declared.header.Header.{Header}
@@ -19,7 +19,7 @@ use Rattle.book.specs.declared.calls.HourCall.{HourCall}
 use Rattle.book.specs.declared.calls.HourCall.TheVariants.{Enter as EnterCall, Close as CloseCall, Read as ReadCall, Settle as SettleCall}
 use Rattle.book.specs.declared.calls.Turn.{Turn}
 
--- a call, wherever its rows lie
+-- a call, with its offers and price rows as lists of prices
 pub data Call : Type 0 where
   Enter : Entry → Call
   Close : Offers → Call
@@ -46,11 +46,12 @@ next_state (Read reading) (Closed offers h rs) = Closed offers h (next_readings 
 next_state (Settle rows) (Closed offers h rs) = Settled offers rows h rs
 next_state call s = s
 
--- what a call is told
+-- what an entry or a reading is told by its answer
 abbrev pub answer_by : Result ℕ BookRefusal → CallAnswer
 answer_by (Ok number) = Number number
 answer_by (Err refusal) = Refused refusal
 
+-- what a call is told in a state
 abbrev pub told : Call → State → CallAnswer
 told (Enter entry) (Open h) = answer_by (answer_in entry h)
 told (Close offers) (Open h) = Done
@@ -58,7 +59,7 @@ told (Read reading) (Closed offers h rs) = answer_by (reading_answer_in (view_in
 told (Settle rows) (Closed offers h rs) = Done
 told call s = OutOfTurn
 
--- calls made in turn
+-- the state after the calls of a list, made in turn
 abbrev pub state_after : List Call → State → State
 state_after [] s = s
 state_after (c ∷ cs) s = state_after cs (next_state c s)
@@ -76,14 +77,14 @@ StateCounts (Open h) = CallsCount h []
 StateCounts (Closed offers h rs) = CallsCount h rs
 StateCounts (Settled offers rows h rs) = CallsCount h rs
 
--- an open or a closed hour borrows the book of this name
+-- an open or a closed hour borrows the book of this name; of a settled hour nothing is said
 abbrev pub Borrows : GName → Hour → Type 0
 Borrows name (OpenAt hour) = hour.book.ghost_name ≡ name
 Borrows name (ClosedAt hour) = hour.book.ghost_name ≡ name
 Borrows name (SettledAt hour) = Unit {0}
 
--- one call is made: by whatever calls the hour stood for, it is told what follows from them, and the next hour stands for
--- them with it
+-- one call is made: by whatever calls the hour stood for, it is told what follows from them, and the next hour stands
+-- for them with it
 pub record CallMade (call : Call) (hour next : Hour) (answer : CallAnswer) : Type 0 where
   pub follows : (header : Header) (s : State) → HourOf header s hour → answer ≡ told call s
   pub stands : (header : Header) (s : State) → HourOf header s hour → HourOf header (next_state call s) next
@@ -93,8 +94,9 @@ pub record CallMade (call : Call) (hour next : Hour) (answer : CallAnswer) : Typ
 abbrev pub turn_at : {O G P C H : Type 0} → List (Turn O G P C H) → ℕ → Turn O G P C H
 turn_at turns i = slice_index_or turns i (record { call = EnterCall (AddPlant 0); answer = None })
 
--- The calls of a list are made in turn on an empty hour of a header: the hour stands where they lead, each call is told what
--- follows from those before it, and the calls themselves stay. What the accepted ones count for is said of the list alone.
+-- The calls of a list are made in turn on an empty hour of a header: the hour stands where they lead, each call is told
+-- what follows from those before it, and the calls themselves stay. What the accepted ones count for is said of the
+-- list alone.
 pub record CallsMade {O G P C H : Type 0} (by : HourCall O G P C H → Call) (header : Header) (before after : List (Turn O G P C H)) (hour : Hour) : Type 0 where
   pub stands : HourOf header (state_after (map (λ turn. by turn.call) before) (Open [])) hour
   pub answers : (i : ℕ) → i < length before → (turn_at after i).answer ≡ Some (told (by (turn_at before i).call) (state_after (take i (map (λ turn. by turn.call) before)) (Open [])))

@@ -1,5 +1,6 @@
--- Calls on an hour: what one answers, what its table then holds, and that header and book stay. And by whatever calls the
--- hour stood for: the answer follows from them, by the table of refusals, and the hour then stands for them with the call.
+-- Calls on an hour: what one answers, what its table then holds, and that header and book stay. And by whatever calls
+-- the hour stood for: the answer follows from them, by the table of refusals, and the hour then stands for them with
+-- the call.
 use Rattle.std.specs.Prelude.{◌≡◌, ℕ, List, [], Ok, Err, Result}
 use Rattle.curves.specs.declared.refusals.CurveRefusal.{CurveRefusal}
 use Rattle.settling.specs.Figures.{Pay}
@@ -35,14 +36,15 @@ pub record EntryTaken (entry : Entry) (result : Result ℕ BookRefusal) (hour ne
   pub judged : (header : Header) (h : List Entry) → IsOpen header h hour → EntryJudged entry h result
   pub stands : (header : Header) (h : List Entry) → IsOpen header h hour → IsOpen header (next_history entry h) next
 
--- What a competitive unit with the outcome of making its rows answers by the entries accepted before, and the history with
--- it: the book's refusals come first, and where either refuses nothing is added.
+-- What a competitive unit with the outcome of making its rows answers by the entries accepted before, and the history
+-- with it: the book's refusals come first, and where either refuses nothing is added.
 abbrev pub priced_answer_in : {R : Type 0} → ℕ → ℕ → ℕ → Result R CurveRefusal → List Entry → Result (ℕ × R) UnitRefusal
 priced_answer_in plant declared internal (Ok made) h =
     unless (rows (view_in h) (AddCompetitive plant declared internal)) (λ refusal. Err (Book refusal)) (Ok (number_in (AddCompetitive plant declared internal) h, made))
 priced_answer_in plant declared internal (Err refused) h =
     unless (rows (view_in h) (AddCompetitive plant declared internal)) (λ refusal. Err (Book refusal)) (Err (Rows refused))
 
+-- the history after such a call
 abbrev pub next_priced : {R : Type 0} → ℕ → ℕ → ℕ → Result R CurveRefusal → List Entry → List Entry
 next_priced plant declared internal (Ok made) h = next_history (AddCompetitive plant declared internal) h
 next_priced plant declared internal (Err refused) h = h
@@ -88,7 +90,8 @@ pub record ReadingsTaken (readings : List Reading) (before after_all : Answers) 
 abbrev pub SettledFrom : (Header → Pay) → ClosedHour → Table → Type 0
 SettledFrom pay hour t = Settled hour.header (pay hour.header) hour.book.now.table t
 
--- an open hour is closed by offers, and a closed one settled by price rows
+-- An open hour that is closed by offers is a closed one of the same entries, and a closed hour that is settled by price
+-- rows a settled one of the same calls.
 abbrev pub ClosesBy : Offers → OpenHour → ClosedHour → Type 0
 ClosesBy offers hour next = (header : Header) (h : List Entry) → IsOpen header h hour → IsClosed header offers h [] next
 

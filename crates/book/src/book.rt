@@ -7,7 +7,7 @@ use crate::open::OpenHour;
 use settling::Header;
 use table::Table;
 
-/// A book with room for one hour.
+/// A book with room for one hour: 32 plants, 128 units of each group, 64 buyers and 768 commitments.
 #[derive(Drop)]
 pub struct Book {
     pub(crate) table: Table,
@@ -22,7 +22,8 @@ impl Book {
         Book { table }
     }
 
-    /// Opens an empty hour, whatever the book held.
+    /// Opens an empty hour of a header, whatever the book held. The hour borrows the book until it is let go or
+    /// released. Can't be turned down.
     #[tactic(auto, using(crate::proofs::Hours::empty_open))]
     pub fn open<'b>(&'b mut self, header: Header) -> OpenHour<'b>
         ensures empty { result.book.now.table ≡ empty_table }

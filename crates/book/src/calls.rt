@@ -10,18 +10,26 @@ use curves::{Curve, Offer};
 use settling::{Header, PriceRow};
 use table::{BookRefusal, Entry, Reading};
 
-/// A call of an hour: an entry, closing by an offer for each unit of either group, a reading, or settling by a price row
-/// for each competitive unit and an offer for each guaranteed one.
+/// A call of an hour. Its slices are the caller's, and only read; what a unit has in one is at place n - 1, where n is
+/// its number in its group.
 #[derive(Clone, Copy)]
 pub enum HourCall<'c, O, G, P, C, H> {
+    /// An entry, which an open hour takes.
     Enter(Entry),
+    /// Closing, which an open hour takes.
     Close {
+        /// Offers of the competitive units.
         offers: &'c [O],
+        /// Offers of the guaranteed units.
         guaranteed: &'c [G],
     },
+    /// A reading, which a closed hour takes.
     Read(Reading),
+    /// Settling, which a closed hour takes.
     Settle {
+        /// Price rows of the competitive units.
         rows: &'c [PriceRow<P, C>],
+        /// Offers of the guaranteed units.
         offers: &'c [H],
     },
 }
@@ -29,24 +37,27 @@ pub enum HourCall<'c, O, G, P, C, H> {
 /// What a call of an hour is told.
 #[derive(Clone, Copy, Debug, PartialEq)]
 pub enum CallAnswer {
-    /// The number of the row that an accepted entry or reading made or changed.
+    /// The number of the row that an accepted entry or reading made or changed, from 1.
     Number(u32),
     /// The hour is closed, or settled.
     Done,
+    /// An entry or a reading is turned down, and nothing is changed.
     Refused(BookRefusal),
     /// The hour doesn't take such a call in its state, and nothing is changed.
     OutOfTurn,
 }
 
-/// A call with what it was told, once it is made.
+/// A call of a list, with what it is told.
 #[derive(Clone, Copy)]
 pub struct Turn<'c, O, G, P, C, H> {
+    /// Stays as it is when it is made.
     pub call: HourCall<'c, O, G, P, C, H>,
+    /// Written when the call is made.
     pub answer: Option<CallAnswer>,
 }
 
 impl<'c, O, G, P, C, H> Turn<'c, O, G, P, C, H> {
-    /// A call that is to be made.
+    /// A call that is to be made, without an answer.
     pub fn new(call: HourCall<'c, O, G, P, C, H>) -> Turn<'c, O, G, P, C, H>
         ensures call { result.call ≡ call.entry }
         ensures answer { result.answer ≡ None }
@@ -58,12 +69,15 @@ impl<'c, O, G, P, C, H> Turn<'c, O, G, P, C, H> {
 /// An hour in the state that its calls have led to.
 #[derive(Drop)]
 pub enum Hour<'b> {
+    /// Not closed.
     Open(OpenHour<'b>),
+    /// Closed and not settled.
     Closed(ClosedHour<'b>),
+    /// Settled.
     Settled(SettledHour<'b>),
 }
 
-// What an entry or a reading answers, as a call of an hour.
+// What a call is told where it is an entry or a reading of that answer.
 fn told(answer: Result<u32, BookRefusal>) -> CallAnswer
     ensures { result ≡ answer_by answer }
 {
@@ -134,9 +148,9 @@ impl<'b> Hour<'b> {
     }
 }
 
-/// Opens an empty hour, whatever the book held, and makes calls in turn, in whatever order: one that the hour doesn't take
-/// in its state changes nothing. What each is told is written beside it. When an open or a closed hour is let go, the book
-/// holds what it held.
+/// Opens an empty hour, whatever the book held, and makes the calls of the caller's `turns` one after another. What
+/// each is told is written beside it; one that is refused or out of turn changes nothing. When an open or a closed hour
+/// is let go, the book holds what the hour held.
 pub fn run_calls<'b, O: Offer, G: Offer, P: Offer, C: Curve, H: Offer>(
     book: &'b mut Book,
     header: Header,

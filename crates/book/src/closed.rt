@@ -10,37 +10,40 @@ use curves::{Curve, Offer};
 use settling::{Header, PriceRow, settle};
 use table::{BookRefusal, GuaranteedReading, Reading, UnitReading};
 
-/// An hour whose commitments are split.
+/// A closed hour: each plant's commitments are split over its units. It takes readings and settling, and borrows the
+/// book. Refusals are named below in the order in which they are looked for, and the first that applies is answered.
 #[derive(Drop)]
 pub struct ClosedHour<'b> {
     pub(crate) book: &'b mut Book,
     pub(crate) header: Header,
 }
 
-// The methods take a reading's parameters one by one: they are the public calls.
 impl<'b> ClosedHour<'b> {
-    /// The header by which the hour will be settled.
+    /// The header that the hour was opened with.
     pub fn header(&self) -> Header
         ensures { result ≡ self.now.header }
     {
         self.header
     }
 
-    /// Takes a reading: answers the number of the row that it changed, or what turned it down.
+    /// Takes a reading: answers the number of its unit or buyer, or the first refusal that applies (`Reading` has those
+    /// of each). The book then holds it in place of an earlier one; a refused one changes nothing.
     pub fn read(&mut self, reading: Reading) -> Result<u32, BookRefusal>
         ensures { ReadingTaken reading result self.old self.new }
     {
         self.book.table.read(reading)
     }
 
-    /// Takes a competitive unit's reading.
+    /// Takes the reading of a competitive unit, by its number in group 1, and answers that number. Refused with 2, 6,
+    /// 9, 10 or 11. It replaces the unit's earlier reading whole; a refused one changes nothing.
     pub fn read_competitive(&mut self, unit: u32, reading: UnitReading) -> Result<u32, BookRefusal>
         ensures { ReadingTaken (Reading.Competitive unit reading) result self.old self.new }
     {
         self.read(Reading::Competitive { unit, reading })
     }
 
-    /// Takes a guaranteed unit's reading.
+    /// Takes the reading of a guaranteed unit, by its number in group 2, and answers that number. Refused with 2, 6 or
+    /// 10. It replaces the unit's earlier reading whole; a refused one changes nothing.
     pub fn read_guaranteed(
         &mut self,
         unit: u32,
@@ -51,21 +54,23 @@ impl<'b> ClosedHour<'b> {
         self.read(Reading::Guaranteed { unit, reading })
     }
 
-    /// Takes a buyer's use.
+    /// Takes a buyer's use, kWh, and answers the buyer's number. Refused with 3, then with 6 where the use is over
+    /// 50,000,000. It replaces an earlier one; a refused one changes nothing.
     pub fn read_use(&mut self, buyer: u32, used: u32) -> Result<u32, BookRefusal>
         ensures { ReadingTaken (Reading.Use buyer used) result self.old self.new }
     {
         self.read(Reading::Use { buyer, used })
     }
 
-    /// Takes readings in turn, and writes down what each answers, as far as there is room.
+    /// Takes readings in turn, as `read` does. What each answers is written at its place of the caller's `answers`;
+    /// readings past the end of the answers are taken all the same.
     pub fn read_all(&mut self, readings: &[Reading], answers: &mut [Result<u32, BookRefusal>])
         ensures { ReadingsTaken readings.now answers.old answers.new self.old self.new }
     {
         self.book.table.read_all(readings, answers);
     }
 
-    // Writes every figure where the hour lies. Who lent the book can then say what it holds.
+    // Writes every figure into the book that the hour borrows.
     pub(crate) fn write_figures<O: Offer, C: Curve, G: Offer>(
         &mut self,
         rows: &[PriceRow<O, C>],
@@ -77,8 +82,8 @@ impl<'b> ClosedHour<'b> {
         settle(&mut self.book.table, &self.header, rows, offers);
     }
 
-    /// Settles the hour: writes every figure, by a price row for each competitive unit and an offer for each guaranteed
-    /// one.
+    /// Settles the hour: the book then holds every figure. Unit n has its price row (`rows`, group 1) or its offer
+    /// (`offers`, group 2) at place n - 1, and is paid 0 without one. The slices are only read. Can't be turned down.
     pub fn settle<O: Offer, C: Curve, G: Offer>(
         mut self,
         rows: &[PriceRow<O, C>],

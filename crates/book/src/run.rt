@@ -16,19 +16,22 @@ use curves::{Curve, Offer};
 use settling::{Header, PriceRow};
 use table::{BookRefusal, Entry, Reading};
 
-/// The calls of an hour up to its readings: entries, closing with a row of offers for each group, readings.
+/// The calls of an hour up to its readings. The slices are the caller's, and only read; the offer of unit n is at place
+/// n - 1 of its group's.
 #[derive(Drop)]
 pub struct Calls<'c, O, G> {
+    /// Entries, taken in turn.
     pub entries: &'c [Entry],
+    /// Offers of the competitive units, for closing.
     pub offers: &'c [O],
+    /// Offers of the guaranteed units, for closing.
     pub guaranteed: &'c [G],
+    /// Readings, taken in turn once the hour is closed.
     pub readings: &'c [Reading],
 }
 
-// Of the runs each takes what its state needs, so their first parameters are the same, and the first takes its entries and
-// their answers one by one as `enter_all` does: they are public calls. Each says `EntriesJudged` of its own entries.
-/// Opens an empty hour, whatever the book held, and takes entries in turn. The answers are written down as far as there
-/// is room. When the hour is let go, the book holds what it held.
+/// Opens an empty hour, whatever the book held, and takes entries in turn. What each answers is written into the
+/// caller's `answers` as far as there is room. When the hour is let go, the book holds what the hour held.
 pub fn run_open<'b>(
     book: &'b mut Book,
     header: Header,
@@ -44,8 +47,9 @@ pub fn run_open<'b>(
     hour
 }
 
-/// Opens an empty hour, takes entries in turn, closes, and takes readings in turn. The law of a closed hour then holds,
-/// by the accepted entries alone. When the hour is let go, the book holds what it held.
+/// Opens an empty hour, takes entries in turn, closes, and takes readings in turn; answers are written as far as there
+/// is room. The law of a closed hour then holds, by the accepted entries alone. When the hour is let go, the book holds
+/// what the hour held.
 pub fn run_closed<'b, O: Offer, G: Offer>(
     book: &'b mut Book,
     header: Header,
@@ -65,8 +69,9 @@ pub fn run_closed<'b, O: Offer, G: Offer>(
     hour
 }
 
-/// Opens an empty hour, takes entries in turn, closes, takes readings in turn, and settles. The law of a settled hour then
-/// holds, by the accepted calls alone. When the hour is let go, the book holds what it held.
+/// Opens an empty hour, takes entries in turn, closes, takes readings in turn, and settles by `rows` (group 1) and
+/// `offers` (group 2); answers are written as far as there is room. The law of a settled hour then holds, by the
+/// accepted calls alone. The book holds what the hour holds.
 pub fn run_settled<'b, O: Offer, G: Offer, P: Offer, C: Curve, H: Offer>(
     book: &'b mut Book,
     header: Header,

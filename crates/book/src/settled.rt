@@ -5,15 +5,15 @@ ghost use Rattle.book.specs.Questions.{unit_answer, plant_answer, buyer_answer};
 use crate::book::Book;
 use table::{BookRefusal, BuyerFigures, Group, HourFigures, PlantFigures, UnitFigures};
 
-/// An hour whose figures are written.
+/// A settled hour: it answers questions about its figures, and borrows the book for reading.
 #[derive(Drop)]
 pub struct SettledHour<'b> {
     pub(crate) book: &'b Book,
 }
 
-// Each question goes by a place: over a method of `Rows` that answers the row of a number they didn't prove.
 impl<'b> SettledHour<'b> {
-    /// The figures of a unit of group 1 or 2.
+    /// The figures of a unit, by its group and its number in the group. Refused with 2 where the group is neither 1 nor
+    /// 2, or no unit has that number.
     pub fn unit(&self, group: u32, number: u32) -> Result<UnitFigures, BookRefusal>
         ensures { result ≡ unit_answer group number self.now.book.now.table }
     {
@@ -22,8 +22,7 @@ impl<'b> SettledHour<'b> {
         Ok(units.rows[place].figures)
     }
 
-    // Each question names its rows and its refusal; one for any rows would take both from its caller.
-    /// The figures of a plant.
+    /// The figures of a plant, by its number. Refused with 1 where no plant has it.
     pub fn plant(&self, number: u32) -> Result<PlantFigures, BookRefusal>
         ensures { result ≡ plant_answer number self.now.book.now.table }
     {
@@ -32,7 +31,7 @@ impl<'b> SettledHour<'b> {
         Ok(plants.rows[place].figures)
     }
 
-    /// The figures of a buyer.
+    /// The figures of a buyer, by its number. Refused with 3 where no buyer has it.
     pub fn buyer(&self, number: u32) -> Result<BuyerFigures, BookRefusal>
         ensures { result ≡ buyer_answer number self.now.book.now.table }
     {
@@ -41,7 +40,7 @@ impl<'b> SettledHour<'b> {
         Ok(buyers.rows[place].figures)
     }
 
-    /// The figures of the hour.
+    /// The figures of the hour. Can't be turned down.
     pub fn hour(&self) -> HourFigures
         ensures { result ≡ self.now.book.now.table.figures }
     {

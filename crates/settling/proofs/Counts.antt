@@ -1,4 +1,4 @@
--- What the units come to when they are settled are the sums of the ledger's figures.
+-- The totals of settled units are the sums of the ledger's figures.
 use Rattle.table.specs.Places.{unit_at}
 use Rattle.std.proofs.Common.{◌≡◌, ℕ, ◌+◌, ◌<◌, min, Bool, true, false, cond, eqb, List, Some, None, Option, refl, ap, ◌∙◌}
 use Rattle.allocation.specs.Groups.{sum_of}
@@ -15,7 +15,7 @@ use Rattle.settling.specs.Settled.{GroupSettled}
 use Rattle.settling.specs.Totals.{unit_totals, counted, counted_totals, no_totals}
 use Rattle.settling.specs.declared.totals.Totals.{Totals}
 
--- what a unit comes to, by the ledger
+-- a unit's totals, by the ledger
 abbrev pub case_totals : ℕ → UnitCase → Totals
 case_totals payment u = record {
   billed = bill_in u;

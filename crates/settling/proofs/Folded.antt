@@ -1,4 +1,4 @@
--- A fold over units that adds what each comes to.
+-- A fold over units that adds up their totals.
 use Rattle.std.proofs.Common.{zero, suc, Bool, true, false, cond, filter, sum_by, ◌≡◌, ℕ, ◌+◌, ◌<◌, ◌≤◌, List, [], ◌∷◌, ◌++◌, length, map, get_or, Some, None, Option, sym, ap, ◌∙◌, subst, arith}
 use denote.Param.Members.{Mut}
 use denote.Ref.{Bor}
@@ -51,7 +51,7 @@ module _ (plant : Option ℕ) where
       ∙ totals_more plant vs (length us)
       ∙ ap (sum_totals plant vs) (sym (length-append us (u ∷ [])))
 
-  -- a total that is the sum of some units, and small where each is paid so much that sums fit
+  -- totals that are the sum of those of some units, and within their bound where no unit is paid more than it can be
   pub record Summed (us : List UnitRecord) (a : Totals) : Type 0 where
     pub value : a ≡ whole us
     pub bound : ((i : ℕ) → i < length us → PaymentFits (get_or us i blank)) → AtMostOf (length us) a
@@ -111,7 +111,7 @@ module _ (plant : Option ℕ) where
           penalties = omega (arith, below.penalties, long);
         } (subst PaymentFits own (paid (length seen) (omega (arith, long))))))
 
--- The units of a plant, taken out of a list: they come to what the list comes to, of that plant.
+-- The units of a plant, taken out of a list: their totals are those of the list, of that plant.
 module _ (plant : Option ℕ) (us : List UnitRecord) where
   abbrev kept : List UnitRecord
   kept = filter (counted plant) us

@@ -47,7 +47,7 @@ sum_single (suc n) k v low high =
     omega (arith, here, sum_single n k v low (omega arith)))
     (cases_eq k (n + 1))
 
--- where each commitment has one number of n, what counts for the numbers comes to all volumes
+-- where each commitment counts for one of n numbers, what counts for all of them is the sum of the volumes
 module _ (plants buyers n : ℕ) (number : Commitment → ℕ) (within : (c : Commitment) → Named plants buyers c → (1 ≤ number c) × (number c ≤ n)) (by : ℕ → List Commitment → ℕ) (none : (i : ℕ) → by i [] ≡ 0) (one : (i : ℕ) (c : Commitment) (cs : List Commitment) → by i (c ∷ cs) ≡ cond (eqb (number c) i) c.volume 0 + by i cs) where
   named_sum : (cs : List Commitment) → AllNamed plants buyers cs → sum_of n (λ i. by (i + 1) cs) ≡ volumes cs
   named_sum [] named = sum_zeros n (λ i. by (i + 1) []) (λ i lt. none (i + 1))
@@ -74,7 +74,7 @@ module _ (a : Ledger) where
   shares_none : shares_to a 0 ≡ 0
   shares_none = ap (λ w. running_share (sum_units a billed_unit) w (weights_to a a.buyers)) (sum_none (weight_in a)) ∙ share_none (sum_units a billed_unit) (weights_to a a.buyers)
 
-  -- shares telescope
+  -- the shares of the first n buyers add up to the running share
   shares_to_lem : (n : ℕ) → sum_of n (share_in a) ≡ shares_to a n
   unfolding sum_of
   shares_to_lem zero = sym shares_none

@@ -11,7 +11,7 @@ use Rattle.table.specs.declared.records.UnitReading.{UnitReading}
 use Rattle.settling.specs.Figures.{sum_units, billed_unit, volumes}
 use Rattle.settling.specs.Ledger.{Ledger, table_of}
 
--- a unit's last accepted reading, by its group and number
+-- a unit's last accepted reading, by its group and number, if there is one
 abbrev pub last_reading : ℕ → ℕ → List Reading → Option UnitReading
 last_reading g number rs = cond (g == 1) (last_competitive number rs) (last_guaranteed number rs)
 
@@ -20,6 +20,7 @@ pub record Found : Type 0 where
   pub amount : ℕ → ℕ → ℕ
   pub run : ℕ → ℕ
 
+-- the ledger by the accepted entries and readings, and by what closing found
 abbrev pub ledger_in : Found → List Entry → List Reading → Ledger
 ledger_in found h rs = record {
   plants = plants_in h;

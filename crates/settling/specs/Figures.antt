@@ -45,6 +45,7 @@ offer_payment offer saving (o ∷ os) (suc i) billed feeds = offer_payment offer
 abbrev pub Pay : Type 0
 Pay = ℕ → ℕ → UnitCase → ℕ
 
+-- what units are paid by the price rows of group 1, the offers of group 2, and the header's ceiling and saving
 abbrev pub pay_by : {O C G : Type 0} → (O → ℕ → ℕ) → (C → ℕ → ℕ) → List (PriceRow O C) → (G → ℕ → ℕ) → List G → Header → Pay
 pay_by offer cost rows guaranteed offers header g i u =
     cond (g == 1) (row_payment offer cost header.ceiling rows i (paid_case u))
@@ -54,10 +55,11 @@ pay_by offer cost rows guaranteed offers header g i u =
 abbrev pub sum_units : Ledger → (ℕ → ℕ → UnitCase → ℕ) → ℕ
 sum_units a f = sum_of (a.units 1) (λ i. f 1 i (a.unit 1 i)) + sum_of (a.units 2) (λ i. f 2 i (a.unit 2 i))
 
--- a figure of the units of one plant
+-- a figure of units, counted as 0 for units of other plants
 abbrev pub of_plant : ℕ → (ℕ → ℕ → UnitCase → ℕ) → ℕ → ℕ → UnitCase → ℕ
 of_plant p f g i u = cond (u.plant == p) (f g i u) 0
 
+-- the figures of a unit that are summed: billed and active energy, opportunity payment, both penalties
 abbrev pub billed_unit : ℕ → ℕ → UnitCase → ℕ
 billed_unit g i u = bill_in u
 
@@ -70,7 +72,7 @@ opportunity_unit g i u = (adjustments_of u.reading).opportunity
 abbrev pub penalty_unit : ℕ → ℕ → UnitCase → ℕ
 penalty_unit g i u = (adjustments_of u.reading).planning + (adjustments_of u.reading).cooperation
 
--- all energy sold, and what a buyer bought
+-- the sum of all commitments, and of those that name a buyer
 abbrev pub volumes : List Commitment → ℕ
 volumes cs = sum_by (λ (c : Commitment). c.volume) cs
 
@@ -80,15 +82,16 @@ bought_of buyer c = cond (c.buyer == buyer) c.volume 0
 abbrev pub bought_by : ℕ → List Commitment → ℕ
 bought_by buyer cs = sum_by (bought_of buyer) cs
 
--- the hour's money: all payments and opportunity payments, less the penalties
+-- the hour's money, in thousandths of a rial: all payments and opportunity payments, less the penalties
 abbrev pub hour_money : Pay → Ledger → ℤ
 hour_money pay a = pos (sum_units a pay + sum_units a opportunity_unit * 1000) -ℤ pos (sum_units a penalty_unit * 1000)
 
--- the hour's billed energy over its commitments
+-- the hour's billed energy less its commitments
 abbrev pub hour_over : Ledger → ℤ
 hour_over a = pos (sum_units a billed_unit) -ℤ pos (volumes a.commitments)
 
--- the figures of the plant at a place; its number is one more
+-- Of the plant at a place, whose number is one more: the billed energy of its units less its allocated energy, its day
+-- support, its rate, the cost of its support, and all its figures.
 abbrev pub plant_over : Ledger → ℕ → ℤ
 plant_over a i = pos (sum_units a (of_plant (i + 1) billed_unit)) -ℤ pos (a.plant i).allocated
 

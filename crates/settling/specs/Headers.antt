@@ -10,5 +10,6 @@ abbrev pub over_limit : Header → Bool
 over_limit h =
     nat_lt 10000000 h.ceiling || (nat_lt 50000 h.coefficient || (nat_lt 1000000 h.base || (nat_lt 10000000 h.saving || nat_lt 10000000 h.tariff)))
 
+-- a header within these limits, or the refusal of one that isn't
 abbrev pub checked : Header → Result Header BookRefusal
 checked h = cond (over_limit h) (Err Price) (Ok h)

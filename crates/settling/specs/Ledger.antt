@@ -28,6 +28,7 @@ pub record PlantCase : Type 0 where
   pub allocated : ℕ
   pub run : ℕ
 
+-- a buyer with its last accepted use, if there is one
 pub record BuyerCase : Type 0 where
   pub loss : ℕ
   pub used : Option ℕ
@@ -42,7 +43,7 @@ pub record Ledger : Type 0 where
   pub buyer : ℕ → BuyerCase
   pub commitments : List Commitment
 
--- a missing reading counts as zeros
+-- the energies, adjustments and control of a reading; a missing one counts as zeros
 abbrev pub energies_of : Option UnitReading → CompetitiveEnergies
 energies_of None = record { net = 0; accepted = 0; lost = 0; limited = 0; executed = 0; asked = 0 }
 energies_of (Some r) = r.energies
@@ -55,10 +56,11 @@ abbrev pub control_of : Option UnitReading → Control
 control_of None = record { p_act = 0; type2 = 0; type3 = 0; type5 = 0; type6 = 0; type8 = 0; day = 0; minute = 0 }
 control_of (Some r) = r.control
 
--- the loss of the plant of a number
+-- the loss of the plant of a number, from 1; 0 where there is no row for it
 abbrev pub loss_at : List Plant → ℕ → ℕ
 loss_at plants number = (get_or plants (number - 1) (new_plant 0)).loss
 
+-- a unit's record as settling looks at it, with its plant's loss
 abbrev pub case_of : ℕ → UnitRecord → UnitCase
 case_of loss u = record {
   plant = u.plant;
@@ -73,6 +75,7 @@ case_of loss u = record {
 abbrev pub case_at : List Plant → UnitTable → ℕ → UnitCase
 case_at plants t i = case_of (loss_at plants (unit_at t i).plant) (unit_at t i)
 
+-- the records of a plant and a buyer as settling looks at them
 abbrev pub plant_case : Plant → PlantCase
 plant_case p = record {
   loss = p.loss;
@@ -84,6 +87,7 @@ plant_case p = record {
 abbrev pub buyer_case : Buyer → BuyerCase
 buyer_case b = record { loss = b.loss; used = b.used }
 
+-- the units of a group, by its number
 abbrev pub table_of : ℕ → Table → UnitTable
 table_of g t = cond (g == 1) t.competitive t.guaranteed
 

@@ -30,7 +30,7 @@ with_rows plants competitive guaranteed buyers figures t = record {
   figures = figures;
 }
 
--- one figure of a unit written
+-- a unit with other figures, and all else as it was
 abbrev pub with_figures : UnitFigures → UnitRecord → UnitRecord
 with_figures figures u = record {
   plant = u.plant;
@@ -43,7 +43,7 @@ with_figures figures u = record {
   figures = figures;
 }
 
--- a unit that is billed and paid, by its plant's loss
+-- a unit, a plant and a buyer with the figures of settling, and all else as it was
 abbrev pub settled_unit : (UnitCase → ℕ) → ℕ → UnitRecord → UnitRecord
 settled_unit pay loss u = with_figures (unit_figures (pay (case_of loss u)) (case_of loss u)) u
 

@@ -1,4 +1,5 @@
--- The figures of plants and buyers by what stands in the records when they are written.
+-- The figures of plants, buyers and the hour a second time, as settling goes on: by what stands in the records when
+-- they are written. They are proved to be those of the ledger, in Figures.
 use Rattle.table.specs.Places.{unit_at, plant_at, buyer_at}
 use Rattle.std.specs.Prelude.{◌≡◌, ℕ, ◌+◌, ◌-◌, ◌*◌, ◌<◌, ◌≤◌, min, cond, List, length, take, ℤ, pos, ◌-ℤ◌, Some, None, Option, ◌==◌, slice_index_or}
 use Rattle.std.specs.Option.{unwrap_or}
@@ -19,18 +20,18 @@ use Rattle.settling.specs.Totals.{PaymentFits, plus_totals, sum_totals}
 use Rattle.settling.specs.declared.header.Header.{Header}
 use Rattle.settling.specs.declared.totals.Totals.{Totals}
 
--- what the units of both groups come to, of one plant or of all
+-- the totals of a group, and of both groups, of one plant or of all
 abbrev pub group_totals : Option ℕ → UnitTable → Totals
 group_totals plant t = sum_totals plant t.rows (min t.count 128)
 
 abbrev pub both_totals : Option ℕ → UnitTable → UnitTable → Totals
 both_totals plant competitive guaranteed = plus_totals (group_totals plant competitive) (group_totals plant guaranteed)
 
--- each payment to an entered unit of a group fits
+-- no unit of a group that is entered is paid more than a unit can be
 abbrev pub PaidWithin : UnitTable → Type 0
 PaidWithin t = (i : ℕ) → i < min t.count 128 → PaymentFits (unit_at t i)
 
--- a plant's day support and rate, by what its units come to
+-- a plant's day support, its rate and all its figures, by the totals of its units
 abbrev pub day_of : Plant → Totals → ℕ
 day_of p totals = day_support p.loss p.figures.allocated totals.active
 
@@ -48,14 +49,14 @@ figures_by header money over p totals = record {
   cost = support_cost p.loss p.figures.run (day_of p totals) (rate_by header.ceiling money over p totals) header.coefficient header.base;
 }
 
--- a buyer's weight, and the sum of the first n
+-- a buyer's weight, and the sum of the first n buyers' weights
 abbrev pub buyer_weight : Buyer → ℕ
 buyer_weight b = weight_of b.loss (unwrap_or b.used 0)
 
 abbrev pub weights_of : ℕ → List Buyer → ℕ
 weights_of n buyers = sum_of n (λ i. buyer_weight (slice_index_or buyers i (new_buyer 0)))
 
--- a buyer's figures, by the weights before and with it
+-- a buyer's share and its figures, by the sum of the weights before it and that with its own
 abbrev pub share_of : ℕ → ℕ → ℕ → ℕ → ℕ
 share_of billed before upto total = running_share billed upto total - running_share billed before total
 
@@ -65,7 +66,7 @@ buyer_figures_by billed before upto total bought = record {
   net = pos (share_of billed before upto total) -ℤ pos bought;
 }
 
--- the hour's money, by what all units come to
+-- the hour's money, by the totals of all units
 abbrev pub money_of : Totals → ℤ
 money_of totals = pos (totals.paid + totals.opportunity * 1000) -ℤ pos (totals.penalties * 1000)
 
@@ -77,6 +78,7 @@ hour_by billed committed weights = record {
   unassigned = cond (weights == 0) billed 0;
 }
 
+-- the commitments that are entered
 abbrev pub sold_of : Table → List Commitment
 sold_of t = take (min t.commitments.count 768) t.commitments.rows
 

@@ -1,4 +1,5 @@
--- What some units of a group come to, by the figures that stand in their records.
+-- Totals of units, by the figures that stand in their records as settling goes on. Those of a settled group are the
+-- sums that Figures takes over the ledger.
 use Rattle.std.specs.Prelude.{ℕ, ◌+◌, ◌*◌, ◌≤◌, Bool, true, cond, List, Some, None, Option, ◌==◌, slice_index_or}
 use Rattle.allocation.specs.Groups.{sum_of}
 use Rattle.settlement.specs.Support.{active_of}
@@ -7,10 +8,12 @@ use Rattle.table.specs.declared.records.UnitRecord.{UnitRecord}
 use Rattle.settling.specs.Ledger.{adjustments_of, control_of}
 use Rattle.settling.specs.declared.totals.Totals.{Totals}
 
--- a unit is paid so much that sums over a group fit
+-- The most that a unit can be paid: 2,000,000 kWh at the highest price, and any 32-bit number for each as transmission
+-- saved. Sums over the units of both groups then fit 64 bits.
 abbrev pub PaymentFits : UnitRecord → Type 0
 PaymentFits u = u.figures.payment ≤ 8609934590000000
 
+-- the totals of one unit
 abbrev pub unit_totals : UnitRecord → Totals
 unit_totals u = record {
   billed = u.figures.billed;
@@ -28,6 +31,7 @@ counted (Some p) u = u.plant == p
 abbrev pub no_totals : Totals
 no_totals = record { billed = 0; paid = 0; active = 0; opportunity = 0; penalties = 0 }
 
+-- the totals of one unit if it is counted, else none
 abbrev pub counted_totals : Option ℕ → UnitRecord → Totals
 counted_totals plant u = cond (counted plant u) (unit_totals u) no_totals
 
@@ -40,7 +44,7 @@ plus_totals a b = record {
   penalties = a.penalties + b.penalties;
 }
 
--- the first n units of a group, of one plant or of all
+-- the totals of the first n units of a group, of one plant or of all
 abbrev pub sum_totals : Option ℕ → List UnitRecord → ℕ → Totals
 sum_totals plant units n = record {
   billed = sum_of n (λ i. (counted_totals plant (slice_index_or units i (new_unit 0 0 None 0 0))).billed);
@@ -50,7 +54,7 @@ sum_totals plant units n = record {
   penalties = sum_of n (λ i. (counted_totals plant (slice_index_or units i (new_unit 0 0 None 0 0))).penalties);
 }
 
--- totals of at most n units
+-- totals of at most n units; active energy adds at most six 32-bit numbers for each
 pub record AtMostOf (n : ℕ) (t : Totals) : Type 0 where
   pub billed : t.billed ≤ n * 25769803770
   pub paid : t.paid ≤ n * 8609934590000000
@@ -58,7 +62,7 @@ pub record AtMostOf (n : ℕ) (t : Totals) : Type 0 where
   pub opportunity : t.opportunity ≤ n * 25769803770
   pub penalties : t.penalties ≤ n * 25769803770
 
--- of one unit, and of those of a group
+-- totals of one unit, and of the units of a group
 abbrev pub Small : Totals → Type 0
 Small t = AtMostOf 1 t
 

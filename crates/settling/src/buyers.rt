@@ -17,16 +17,16 @@ fn weight_of(buyer: &Buyer) -> u64
     weight(buyer.used.unwrap_or(0), buyer.loss)
 }
 
-/// The commitments that are entered.
+/// The commitments that are entered, at most 768.
 #[derive(Clone, Copy)]
 pub(crate) struct Sold<'t> {
     pub(crate) commitments: &'t [Commitment],
     ghost few: { length commitments.now ≤ 768 },
 }
 
-// Sums of volumes have no type of their own, so each function says their bound.
+// There are at most 768 volumes of 32 bits, so their sum fits 64.
 impl Sold<'_> {
-    /// All volumes.
+    /// The sum of all volumes, kWh.
     pub(crate) fn volumes(&self) -> u64
         ensures value { result ≡ volumes self.now.commitments.now }
         ensures bound { result ≤ 768 * 4294967295 }
@@ -37,7 +37,7 @@ impl Sold<'_> {
             .sum()
     }
 
-    // What each buyer bought, by its place. One walk for all buyers, since there may be many of both.
+    // What each buyer bought, kWh, by its place. One walk over up to 768 commitments serves all buyers.
     fn bought(&self) -> [u64; BUYERS]
         ensures value { (k : ℕ) → k < 64 → slice_index result k ≡ bought_by (k + 1) self.now.commitments.now }
         ensures bound { (k : ℕ) → k < 64 → slice_index result k ≤ 768 * 4294967295 }
@@ -62,7 +62,7 @@ fn add_bought(bought: &mut [u64; BUYERS], commitment: &Commitment)
     }
 }
 
-/// Billed energy that is shared among buyers, and what their weights come to.
+/// Billed energy that is shared among buyers, kWh, and the sum of their weights.
 #[derive(Clone, Copy)]
 pub(crate) struct Shares {
     pub(crate) billed: u64,
@@ -90,7 +90,7 @@ impl Shares {
             - running_share(self.billed, before, self.weights)) as u64
     }
 
-    // The figures of a buyer between two running weights, which bought so much.
+    // The figures of a buyer by the sum of the weights before it, that with its own, and what it bought.
     fn figures(&self, before: u64, upto: u64, bought: u64) -> BuyerFigures
         requires { (before ≤ upto) × ((upto ≤ self.now.weights) × (bought ≤ 768 * 4294967295)) }
         ensures { result ≡ buyer_figures_by self.now.billed before upto self.now.weights bought }

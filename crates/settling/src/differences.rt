@@ -1,7 +1,6 @@
 // Differences that may be negative.
 ghost use Rattle.std.specs.Prelude.{◌≡◌, ◌≤◌, pos, ◌-ℤ◌};
 
-// One less the other.
 pub(crate) fn difference(one: u64, other: u64) -> i64
     requires { (one ≤ 9223372036854775807) × (other ≤ 9223372036854775807) }
     ensures { result ≡ pos one -ℤ pos other }

@@ -5,26 +5,30 @@ ghost use Rattle.settling.specs.Headers.{checked};
 use curves::MAX_PRICE;
 use table::BookRefusal;
 
+// Of the readiness coefficient, ten-thousandths.
 const MAX_COEFFICIENT: u32 = 50_000;
 
+// Of the readiness base rate, rial per MW.
 const MAX_BASE: u32 = 1_000_000;
 
-/// What an hour is settled by. It is made by its check alone.
+/// The header of an hour. Its numbers are within their limits, since only `Header::new` makes one.
 #[derive(Clone, Copy, Debug, PartialEq)]
 pub struct Header {
+    /// The hour's highest price, rial per MWh, at most 10,000,000.
     pub(crate) ceiling: u32,
-    /// Readiness coefficient, in ten-thousandths.
+    /// Readiness coefficient (CPF), ten-thousandths, at most 50,000.
     pub(crate) coefficient: u32,
-    /// Readiness base rate, in rial for a MW.
+    /// Readiness base rate (BAR), rial per MW, at most 1,000,000.
     pub(crate) base: u32,
-    /// Transmission saved, in rial for a MWh.
+    /// Transmission saved, rial per MWh, at most 10,000,000.
     pub(crate) saving: u32,
-    /// The rate of the tariff.
+    /// The tariff's rate, rial per MWh, at most 10,000,000. No figure reads it.
     pub(crate) tariff: u32,
 }
 
 impl Header {
-    /// A header, or the refusal of a value over its limit.
+    /// A header, or refusal 9. At most: `ceiling`, `saving` and `tariff` 10,000,000 rial per MWh, `coefficient` (CPF)
+    /// 50,000 ten-thousandths, `base` (BAR) 1,000,000 rial per MW.
     pub fn new(
         ceiling: u32,
         coefficient: u32,
@@ -51,7 +55,7 @@ impl Header {
         })
     }
 
-    /// The rate of the tariff.
+    /// The tariff's rate, rial per MWh, for whoever makes the guaranteed units' tariffs.
     pub fn tariff(&self) -> u32
         ensures { result ≡ self.now.tariff }
     {

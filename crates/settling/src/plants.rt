@@ -11,7 +11,7 @@ use crate::totals::{Totals, group_totals};
 use settlement::{day_support, rate, support_cost};
 use table::{PLANTS, Plant, PlantFigures, Rows, UnitTable};
 
-/// The units of both groups, each paid so much that sums fit.
+/// The units of both groups, once they are paid. Every sum of their payments fits 64 bits.
 #[derive(Clone, Copy)]
 pub(crate) struct PaidUnits<'t> {
     pub(crate) competitive: &'t UnitTable,
@@ -20,7 +20,7 @@ pub(crate) struct PaidUnits<'t> {
 }
 
 impl PaidUnits<'_> {
-    /// What the units come to, of one plant or of all.
+    /// The totals of the units of one plant, or of all units.
     pub(crate) fn totals(&self, plant: Option<u32>) -> Totals
         ensures value { result ≡ both_totals plant self.now.competitive.now self.now.guaranteed.now }
         ensures bound { AtMostOf 256 result }
@@ -29,18 +29,19 @@ impl PaidUnits<'_> {
     }
 }
 
-/// What the figures of every plant look at: the header, the hour's money in thousandths of a rial, and its billed energy
-/// over its commitments.
+/// What is the same for all plants: the header, and the money and energy of the hour's quotient.
 #[derive(Clone, Copy)]
 pub(crate) struct HourTerms<'h> {
     pub(crate) header: &'h Header,
+    /// Payments and opportunity payments less penalties, thousandths of a rial; may be negative.
     pub(crate) money: i64,
+    /// Billed energy less commitments, kWh; may be negative.
     pub(crate) over: i64,
 }
 
-// Each function says the bound of its totals: one type holds those of a unit, of a group and of both groups.
+// The totals are those of at most 256 units, 128 of each group.
 impl HourTerms<'_> {
-    /// The hour's money is payments and opportunity payments less penalties.
+    /// By the totals of all units and the hour's commitments, kWh. A rial of adjustments is 1,000 of the hour's money.
     pub(crate) fn new<'h>(header: &'h Header, totals: &Totals, committed: u64) -> HourTerms<'h>
         requires { AtMostOf 256 totals.now × (committed ≤ 768 * 4294967295) }
         ensures header { result.header.now ≡ header.now }
@@ -57,7 +58,7 @@ impl HourTerms<'_> {
         }
     }
 
-    // A plant's own rate, by what its units come to.
+    // A plant's rate, by the totals of its units.
     fn rate(&self, plant: &Plant, totals: &Totals) -> u32
         requires { AtMostOf 256 totals.now }
         ensures { result ≡ rate_by self.now.header.now.ceiling self.now.money self.now.over plant.now totals.now }
@@ -66,7 +67,7 @@ impl HourTerms<'_> {
         rate(totals.paid, own, self.money, self.over, self.header.ceiling)
     }
 
-    // A plant's figures, by what its units come to.
+    // A plant's figures, by what closing found and the totals of its units.
     fn figures(&self, plant: &Plant, totals: &Totals) -> PlantFigures
         requires { AtMostOf 256 totals.now }
         ensures { result ≡ figures_by self.now.header.now self.now.money self.now.over plant.now totals.now }
@@ -91,7 +92,7 @@ impl HourTerms<'_> {
     }
 }
 
-/// Settles each plant that is entered by its own units.
+/// Writes the figures of each plant that is entered.
 pub(crate) fn settle_plants(plants: &mut Rows<Plant, PLANTS>, units: &PaidUnits, terms: &HourTerms)
     ensures count { plants.new.count ≡ plants.old.count }
     ensures long { length plants.new.rows ≡ length plants.old.rows }

@@ -8,10 +8,12 @@ use curves::Curve;
 use settlement::{PaidUnit, competitive_payment, guaranteed_payment};
 use table::UnitRecord;
 
-/// The prices of a competitive unit: its offer and its cost curve.
+/// The price row of a competitive unit, for settling. The row of unit n is at place n - 1.
 #[derive(Clone, Copy)]
 pub struct PriceRow<O, C> {
+    /// Its offer: prices in rial per MWh that never fall.
     pub offer: O,
+    /// Its cost curve: prices in rial per MWh.
     pub cost: C,
 }
 
@@ -22,8 +24,7 @@ pub(crate) struct ByRows<'r, O, C> {
     pub(crate) ceiling: u32,
 }
 
-// A competitive unit as its payment looks at it. Unit and loss as `Payer` takes them: a struct of both would live for one
-// call alone.
+// A competitive unit as its payment looks at it, with its plant's loss.
 fn paid_unit(unit: &UnitRecord, loss: u32) -> PaidUnit
     ensures { result ≡ paid_case (case_of loss unit.now) }
 {
@@ -39,7 +40,6 @@ impl<O: Curve, C: Curve> Payer for ByRows<'_, O, C> {
     ghost payment = { λ s i u. row_payment O.Curve.prices C.Curve.prices s.ceiling s.rows.now i (paid_case u) };
 
     fn payment(&self, place: usize, unit: &UnitRecord, loss: u32) -> u64 {
-        // `map_or` over a row of generic curves doesn't prove.
         let Some(row) = self.rows.get(place) else {
             return 0;
         };
@@ -58,7 +58,6 @@ impl<G: Curve> Payer for ByOffers<'_, G> {
     ghost payment = { λ s i u. offer_payment G.prices s.saving s.offers.now i (bill_in u) u.feeds };
 
     fn payment(&self, place: usize, unit: &UnitRecord, loss: u32) -> u64 {
-        // As above.
         let Some(offer) = self.offers.get(place) else {
             return 0;
         };

@@ -11,7 +11,7 @@ use crate::units::settle_group;
 use curves::{Curve, Offer};
 use table::{HourFigures, Table};
 
-// Settles plants, buyers and the hour, when the units are settled.
+// Writes the figures of plants, buyers and the hour, once the units have theirs.
 fn settle_rest(table: &mut Table, header: &Header)
     requires { (PaidWithin table.old.competitive) × (PaidWithin table.old.guaranteed) }
     ensures { RestSettled header.now table.old table.new }
@@ -36,7 +36,8 @@ fn settle_rest(table: &mut Table, header: &Header)
     };
 }
 
-/// Settles a closed table: writes the figures of its units, plants and buyers and of the hour.
+/// Settles a closed table: writes every figure of units, plants, buyers and the hour. `rows` are those of group 1,
+/// `offers` of group 2; that of a unit is at its place, and a unit without one is paid 0. Can't be turned down.
 pub fn settle<O: Offer, C: Curve, G: Offer>(
     table: &mut Table,
     header: &Header,

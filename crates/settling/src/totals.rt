@@ -1,4 +1,4 @@
-// Sums over the units of a group.
+// Totals of units: sums of what is billed, paid and read.
 ghost use Rattle.std.specs.Prelude.{◌≡◌};
 ghost use Rattle.settling.specs.Stages.{group_totals, PaidWithin};
 ghost use Rattle.settling.specs.Totals.{PaymentFits, unit_totals, counted, plus_totals, Small, Fits};
@@ -6,19 +6,23 @@ ghost use Rattle.settling.specs.Totals.{PaymentFits, unit_totals, counted, plus_
 use std::ops::Add;
 use table::{UnitRecord, UnitTable};
 
-/// What some units come to.
+/// Sums over some units.
 #[derive(Clone, Copy, Default)]
 pub(crate) struct Totals {
+    /// Billed energy, kWh.
     pub(crate) billed: u64,
+    /// Payments, thousandths of a rial.
     pub(crate) paid: u64,
+    /// Active energy, kWh.
     pub(crate) active: u64,
+    /// Opportunity payments, rial.
     pub(crate) opportunity: u64,
-    /// Both penalties.
+    /// Planning and non-cooperation penalties, rial.
     pub(crate) penalties: u64,
 }
 
 impl Totals {
-    // What one unit comes to.
+    // The totals of one unit; a missing reading counts as zeros.
     fn of(unit: &UnitRecord) -> Totals
         ensures value { result ≡ unit_totals unit.now }
         ensures bound { PaymentFits unit.now → Small result }
@@ -59,7 +63,7 @@ fn is_counted(unit: &UnitRecord, plant: Option<u32>) -> bool
     plant.is_none_or(|number| unit.plant == number)
 }
 
-// What the entered units come to, of one plant or of all.
+// The totals of a group's units that are entered, of one plant or of all.
 pub(crate) fn group_totals(group: &UnitTable, plant: Option<u32>) -> Totals
     requires { PaidWithin group.now }
     ensures value { result ≡ group_totals plant group.now }

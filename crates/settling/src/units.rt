@@ -12,10 +12,10 @@ use table::{Plant, UnitRecord, UnitTable};
 
 /// What the units of a group are paid by.
 pub(crate) trait Payer {
-    // What a unit is paid, by its place.
+    // The payment of the unit at a place, thousandths of a rial.
     ghost payment: { Self → ℕ → UnitCase → ℕ };
 
-    /// What a billed unit is paid, by its place and its plant's loss.
+    /// The payment of a billed unit, thousandths of a rial, by its place and its plant's loss.
     fn payment(&self, place: usize, unit: &UnitRecord, loss: u32) -> u64
         requires billed { unit.now.figures.billed ≡ bill_in (case_of loss unit.now) }
         ensures value { result ≡ payment self.now place (case_of loss unit.now) }
@@ -29,7 +29,7 @@ pub(crate) fn energies_of(unit: &UnitRecord) -> CompetitiveEnergies
     unit.reading.unwrap_or_default().energies
 }
 
-// The loss of the plant of a number.
+// The loss of the plant of a number; 0 where there is none.
 fn loss_of(plants: &[Plant], number: u32) -> u32
     ensures { result ≡ loss_at plants.now number }
 {

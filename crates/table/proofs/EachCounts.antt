@@ -64,7 +64,7 @@ module _ {Y : Type 0} (see : UnitRecord → Y) (kind : Entry → Type 0) (g n : 
   all_later (e ∷ later) before le none =
       one_later e (later ++ before) (omega (arith, all_grow (units_in g) before (λ x h. omega arith) later)) none.0 ∙ all_later later before le none.1
 
--- a part of a proper history
+-- the earlier entries of a proper history are a proper one
 proper_before : (later before : List Entry) → Proper (later ++ before) → Proper before
 proper_before [] before ok = ok
 proper_before (e ∷ later) before ok = proper_before later before ok.1
@@ -165,7 +165,7 @@ adds_one g (TakeBack group unit) = record { plant = refl; unit = refl; buyer = r
 adds_one g (AddBuyer loss) = record { plant = refl; unit = refl; buyer = refl; commitment = refl }
 adds_one g (Commit plant buyer volume) = record { plant = refl; unit = refl; buyer = refl; commitment = refl }
 
--- how many there are
+-- how many entries of a kind a history has
 counted : (test : Entry → Bool) (count : List Entry → ℕ) → count [] ≡ 0 → ((e : Entry) (h : List Entry) → count (e ∷ h) ≡ count h + cond (test e) 1 0) → (h : List Entry) → count h ≡ count_by test h
 counted test count none one [] = none
 counted test count none one (e ∷ h) =
@@ -309,7 +309,7 @@ each_sold h = record {
         let off : cond (eqb plant p) volume 0 ≡ 0 = cond-false _ _ _ (ne_eqb plant p (λ same. other buyer volume (ap (λ x. Commit x buyer volume) same))) in
         omega (arith, off)
 
--- so of a proper history
+-- what the entries of a proper history count for
 pub entries_count : (h : List Entry) → Proper h → EntriesCount h
 entries_count h ok = record { last = last_counts h ok; numbered = numbered h; sold = each_sold h }
 

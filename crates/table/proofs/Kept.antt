@@ -50,7 +50,7 @@ module _ {O P : Type 0} (prices1 : O → ℕ → ℕ) (offers1 : List O) (prices
     sold = subst (λ (x : Table). SoldStands h x.sold) (sym closed.rest) s.sold;
   }
 
-  -- and the readings
+  -- closing keeps the readings
   pub closed_metered : (rs : List Reading) → Metered rs t → Metered rs after
   closed_metered rs m =
       let buyers : after.buyers.rows ≡ t.buyers.rows = ap (λ (x : Table). x.buyers.rows) closed.rest in
@@ -63,7 +63,7 @@ module _ {O P : Type 0} (prices1 : O → ℕ → ℕ) (offers1 : List O) (prices
         uses = λ i lt. ap (λ l. (get_or l i (new_buyer 0)).used) buyers ∙ m.uses i lt;
       }
 
--- what a table holds of readings hangs on its units and buyers alone
+-- tables of the same units and buyers hold the same readings
 metered_as : {rs : List Reading} (t after : Table) → after.competitive ≡ t.competitive → after.guaranteed ≡ t.guaranteed → after.buyers.rows ≡ t.buyers.rows → Metered rs t → Metered rs after
 metered_as t after one two buyers m = record {
   competitive_long = ap (λ (u : UnitTable). length u.rows) one ∙ m.competitive_long;
@@ -197,7 +197,7 @@ module _ {O P : Type 0} (prices1 : O → ℕ → ℕ) (offers1 : List O) (prices
     covers = l.covers;
   }
 
--- and what closing found
+-- a reading keeps the law of a closed hour
 pub reading_law : {O P : Type 0} (prices1 : O → ℕ → ℕ) (offers1 : List O) (prices2 : P → ℕ → ℕ) (offers2 : List P) (h : List Entry) (t : Table) (r : Reading) → ClosingLaw prices1 offers1 prices2 offers2 h t → ClosingLaw prices1 offers1 prices2 offers2 h (after_reading r t)
 reading_law prices1 offers1 prices2 offers2 h t r law place lt =
     let l = law place lt in

@@ -115,12 +115,12 @@ closing_law_of sold prices1 offers1 prices2 offers2 h t after s same closed plac
       covers = omega (arith, allocated, run, here, part, one.leaves, two.leaves, one.merit.covered, two.merit.covered);
     }
 
--- for any history: a sum of commitments over 20,000,000 is read as 20,000,000
+-- the law of a closed hour for any history: a sum of commitments over 20,000,000 is read as 20,000,000
 pub closing_law_any : {O P : Type 0} (prices1 : O → ℕ → ℕ) (offers1 : List O) (prices2 : P → ℕ → ℕ) (offers2 : List P) (h : List Entry) (t after : Table) → StandsInSum h t → Closed prices1 offers1 prices2 offers2 t after → ClosingLawOf (λ plant. committed_in plant h) prices1 offers1 prices2 offers2 h after
 closing_law_any prices1 offers1 prices2 offers2 h t after s closed =
     closing_law_of (λ plant. committed_in plant h) prices1 offers1 prices2 offers2 h t after s (λ plant. ap (λ n. min n 20000000) (s.sold plant)) closed
 
--- and for one of accepted entries, whose sums are no greater
+-- the sums of accepted commitments are no greater, and are read as they are
 pub committed_stands : (h : List Entry) → Proper h → (t : Table) → Stands h t → (plant : ℕ) → committed_by plant t ≡ sold_in plant h
 committed_stands h ok t s plant = omega (arith, (stands_in_sum h t s).sold plant, sold_bound h ok plant)
 

@@ -25,7 +25,7 @@ terms_kept plant amount u =
     (λ (other : u.plant ≡ plant → ⊥). ap terms_of (cond-false _ _ _ (ne_eqb _ _ other)))
     (cases_eq u.plant plant)
 
--- and its reading
+-- an allocated unit has the reading that it had
 reading_kept : (plant amount : ℕ) (u : UnitRecord) → (allocated_to plant amount u).reading ≡ u.reading
 reading_kept plant amount u =
     ⊎_elim
@@ -33,7 +33,7 @@ reading_kept plant amount u =
     (λ (other : u.plant ≡ plant → ⊥). ap (λ (v : UnitRecord). v.reading) (cond-false _ _ _ (ne_eqb _ _ other)))
     (cases_eq u.plant plant)
 
--- and each figure but its amount
+-- an allocated unit has each figure that it had but its amount
 figure_kept : (f : UnitRecord → ℕ) (plant amount : ℕ) (u : UnitRecord) → (◌≡◌ {A = ℕ} (f (with_amount amount u)) (f u)) → f (allocated_to plant amount u) ≡ f u
 figure_kept f plant amount u same_f =
     cond_both (eqb u.plant plant) (with_amount amount u) u (λ v. f v ≡ f u) (λ _. same_f) (λ _. refl)
@@ -45,7 +45,7 @@ kept_other plant amount u other = cond-false _ _ _ (ne_eqb u.plant plant other)
 given_own : (plant amount : ℕ) (u : UnitRecord) → u.plant ≡ plant → (allocated_to plant amount u).figures.allocated ≡ amount
 given_own plant amount u own = ap (λ (v : UnitRecord). v.figures.allocated) (cond-true _ _ _ (eq-eqb u.plant plant own))
 
--- and so does closing a group leave it
+-- closing a group leaves each unit's figures but its amount
 figure_after : (f : UnitRecord → ℕ) → ((amount : ℕ) (u : UnitRecord) → f (with_amount amount u) ≡ f u) → {O : Type 0} (prices : O → ℕ → ℕ) (offers : List O) (plant loss share : ℕ) (t now next : UnitTable) (left : ℕ) → ((i : ℕ) → f (unit_at now i) ≡ f (unit_at t i)) → GroupClosed prices offers plant loss share now next left → (i : ℕ) → f (unit_at next i) ≡ f (unit_at t i)
 figure_after f stays prices offers plant loss share t now next left same closed i =
     ⊎_elim
@@ -98,7 +98,7 @@ declared_kept plant rows t now same =
     ap (λ c. sum_of (min (min c 128) rows) (λ i. declared_in plant (unit_at now i))) same.count
     ∙ sum_cong (min (min t.count 128) rows) (λ i. declared_in plant (unit_at now i)) (λ i. declared_in plant (unit_at t i)) (λ i lt. ap (declared_in plant) (same.terms i))
 
--- a sum over the first n of a list; past its end stands one that counts 0
+-- a sum over the first n units of a list; past its end stands one that counts 0
 pub sum_take : (f : UnitRecord → ℕ) (d : UnitRecord) → f d ≡ 0 → (xs : List UnitRecord) (n : ℕ) → sum_by f (take n xs) ≡ sum_of n (λ i. f (get_or xs i d))
 unfolding sum_of
 sum_take f d none xs zero = refl

@@ -27,7 +27,7 @@ module _ {C : Type 0} (after : C → Table → Table) where
   calls_more cs i d t now lt same =
       ap (after (get_or cs i d)) same ∙ sym (ap (λ l. after_calls after l t) (take_more cs i d lt) ∙ calls_push (take i cs) (get_or cs i d) t)
 
--- a table that stands for a history stands for its accepted entries after any more
+-- a table that stands for a history stands, after more entries, for the history with the accepted ones
 pub entries_stand : (es h : List Entry) (t : Table) → Stands h t → Stands (accepted h es) (after_entries es t)
 entries_stand [] h t s = s
 entries_stand (e ∷ es) h t s = entries_stand es (next_history e h) (after_entry e t) (entry_stands e h t s)
@@ -76,7 +76,7 @@ view_kept r t = after_either (λ x. view_of x ≡ view_of t) r t refl (applied_v
     applied_view (Guaranteed unit reading) = refl
     applied_view (Use buyer used) = refl
 
--- so a table holds the last of the readings that its own view accepts
+-- a table holds the last of the readings that its own view accepts
 pub readings_metered_here : (more rs : List Reading) (t : Table) → Metered rs t → Metered (accepted_readings (view_of t) rs more) (after_readings more t)
 readings_metered_here [] rs t m = m
 readings_metered_here (r ∷ more) rs t m =

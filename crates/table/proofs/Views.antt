@@ -22,7 +22,7 @@ view_same h t s =
     ∙ ap (λ x. made (plants_in h) (units_in 1 h) (units_in 2 h) (buyers_in h) x sold) e
     ∙ ap (made (plants_in h) (units_in 1 h) (units_in 2 h) (buyers_in h) (length (commitments_of h))) (fun_ext s.sold.sums)
 
--- so the sums of commitments are the same
+-- a table that stands for a history has its sums of commitments
 pub stands_in_sum : (h : List Entry) (t : Table) → Stands h t → StandsInSum h t
 stands_in_sum h t s = record {
   plants = s.plants;
@@ -31,6 +31,6 @@ stands_in_sum h t s = record {
   sold = λ p. ap (λ (v : View). v.sold p) (view_same h t s);
 }
 
--- and the same row turns an entry down
+-- the same row turns an entry down by the table and by the history that it stands for
 pub rows_same : (e : Entry) (h : List Entry) (t : Table) → Stands h t → rows (view_of t) e ≡ rows (view_in h) e
 rows_same e h t s = ap (λ v. rows v e) (view_same h t s)

@@ -52,7 +52,7 @@ allocated_to plant amount u = cond (u.plant == plant) (with_amount amount u) u
 abbrev pub limit_at : ℕ → ℕ → UnitTable → ℕ → ℕ
 limit_at plant loss t i = cond (nat_lt i (min t.count 128)) (limit_in plant loss (unit_at t i)) 0
 
--- a plant's group: the units with an offer row; those of other plants, put aside or not entered have limit 0
+-- a plant's group: the units with an offer row, of which those of other plants, put aside or not entered have limit 0
 abbrev pub plant_group : {O : Type 0} → (O → ℕ → ℕ) → List O → ℕ → ℕ → UnitTable → Group
 plant_group prices offers plant loss t = record {
   units = min (length offers) 128;
@@ -77,7 +77,7 @@ committed_by plant t = min ((view_of t).sold plant) 20000000
 abbrev pub declared_by : ℕ → ℕ → UnitTable → ℕ
 declared_by plant rows t = sum_of (min (min t.count 128) rows) (λ i. declared_in plant (unit_at t i))
 
--- the shares of a plant's groups, with so many offer rows in each
+-- what of a plant's commitments falls to its group 1, with so many offer rows in each group; the rest falls to group 2
 abbrev pub share_one : ℕ → ℕ → ℕ → Table → ℕ
 share_one plant rows1 rows2 t =
     group_one_share (committed_by plant t) (declared_by plant rows1 t.competitive) (declared_by plant rows2 t.guaranteed)
@@ -113,7 +113,7 @@ terms_of u =
       figures = no_unit_figures;
     }
 
--- a group's units are as they were, but for the figures
+-- a group's units as they were, but for the figures
 pub record SameUnits (before after : UnitTable) : Type 0 where
   pub count : after.count ≡ before.count
   pub readings : (i : ℕ) → (unit_at after i).reading ≡ (unit_at before i).reading
@@ -134,7 +134,7 @@ pub record PlantResult {O P : Type 0} (prices1 : O → ℕ → ℕ) (offers1 : L
   pub two : Allotted prices2 offers2 (place + 1) (plant_at before place).loss (share_two (place + 1) (length offers1) (length offers2) before) before.guaranteed after.guaranteed left2
   pub row : plant_at after place ≡ closed_plant (committed_by (place + 1) before) (left1 + left2) (plant_at before place)
 
--- what a group's units are billed and paid stays
+-- what a group's units are billed and paid is as it was
 pub record SamePaid (before after : UnitTable) : Type 0 where
   pub billed : (i : ℕ) → (unit_at after i).figures.billed ≡ (unit_at before i).figures.billed
   pub payment : (i : ℕ) → (unit_at after i).figures.payment ≡ (unit_at before i).figures.payment
@@ -157,7 +157,7 @@ pub record ClosedTo {O P : Type 0} (prices1 : O → ℕ → ℕ) (offers1 : List
   pub long : length after.plants.rows ≡ length before.plants.rows
   pub rest : after ≡ with_plants before.plants.count after.plants.rows (with_competitive after.competitive (with_guaranteed after.guaranteed before))
 
--- closing: every plant that is entered
+-- closing: every plant that is entered is closed, and nothing else changes
 abbrev pub Closed : {O P : Type 0} → (O → ℕ → ℕ) → List O → (P → ℕ → ℕ) → List P → Table → Table → Type 0
 Closed prices1 offers1 prices2 offers2 before after =
     ClosedTo prices1 offers1 prices2 offers2 (min before.plants.count 32) before after

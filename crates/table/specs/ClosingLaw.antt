@@ -28,7 +28,7 @@ declared_total g plant rows h = sum_of (min (units_in g h) rows) (λ i. declared
 abbrev pub committed_in : ℕ → List Entry → ℕ
 committed_in plant h = min (sold_in plant h) 20000000
 
--- the shares of the plant's groups in what it has sold
+-- what of the energy that a plant has sold falls to its group 1; the rest falls to group 2
 abbrev pub share_one_of : ℕ → ℕ → ℕ → ℕ → List Entry → ℕ
 share_one_of sold plant rows1 rows2 h =
     group_one_share sold (declared_total 1 plant rows1 h) (declared_total 2 plant rows2 h)
@@ -36,7 +36,7 @@ share_one_of sold plant rows1 rows2 h =
 abbrev pub share_two_of : ℕ → ℕ → ℕ → ℕ → List Entry → ℕ
 share_two_of sold plant rows1 rows2 h = sold - share_one_of sold plant rows1 rows2 h
 
--- in its accepted commitments
+-- the shares of both groups where a plant has sold its accepted commitments
 abbrev pub share_one_in : ℕ → ℕ → ℕ → List Entry → ℕ
 share_one_in plant rows1 rows2 h = share_one_of (sold_in plant h) plant rows1 rows2 h
 
@@ -48,8 +48,8 @@ abbrev pub amount_in : ℕ → ℕ → List Entry → UnitTable → ℕ → ℕ
 amount_in g plant h t i =
     cond (nat_lt i (units_in g h) && (unit_in g (i + 1) h).plant == plant) (unit_at t i).figures.allocated 0
 
--- A plant's groups hold the split of their derived shares under their derived limits. Its run support is what they leave
--- uncovered, its allocated energy the sum of their amounts, and both together are what it has sold.
+-- A plant's groups hold the split of their derived shares under their derived limits. Its run support is what they
+-- leave uncovered, its allocated energy the sum of their amounts, and both together are what it has sold.
 pub record PlantLawOf {O P : Type 0} (sold : ℕ) (prices1 : O → ℕ → ℕ) (offers1 : List O) (prices2 : P → ℕ → ℕ) (offers2 : List P) (plant : ℕ) (h : List Entry) (t : Table) : Type 0 where
   pub left1 : ℕ
   pub left2 : ℕ
@@ -60,12 +60,12 @@ pub record PlantLawOf {O P : Type 0} (sold : ℕ) (prices1 : O → ℕ → ℕ) 
   pub allocated : (plant_at t (plant - 1)).figures.allocated ≡ total (group_in 1 prices1 offers1 plant h) (amount_in 1 plant h t.competitive) + total (group_in 2 prices2 offers2 plant h) (amount_in 2 plant h t.guaranteed)
   pub covers : (plant_at t (plant - 1)).figures.allocated + (plant_at t (plant - 1)).figures.run ≡ sold
 
--- the law of each plant, with what each has sold
+-- the law of each plant that was entered, by what each has sold
 abbrev pub ClosingLawOf : {O P : Type 0} → (ℕ → ℕ) → (O → ℕ → ℕ) → List O → (P → ℕ → ℕ) → List P → List Entry → Table → Type 0
 ClosingLawOf sold prices1 offers1 prices2 offers2 h t =
     (place : ℕ) → place < plants_in h → PlantLawOf (sold (place + 1)) prices1 offers1 prices2 offers2 (place + 1) h t
 
--- what a plant has sold are its accepted commitments
+-- the law of a closed hour: each plant has sold its accepted commitments
 abbrev pub ClosingLaw : {O P : Type 0} → (O → ℕ → ℕ) → List O → (P → ℕ → ℕ) → List P → List Entry → Table → Type 0
 ClosingLaw prices1 offers1 prices2 offers2 h t =
     ClosingLawOf (λ plant. sold_in plant h) prices1 offers1 prices2 offers2 h t

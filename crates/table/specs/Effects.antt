@@ -99,7 +99,7 @@ number_of (TakeBack group unit) t = unit
 number_of (AddBuyer loss) t = t.buyers.count + 1
 number_of (Commit plant buyer volume) t = t.commitments.count + 1
 
--- an entry that a row turns down answers it, and changes nothing
+-- one value where a row turns a call down, and another where none does
 abbrev pub unless : {A : Type 0} → Option BookRefusal → (BookRefusal → A) → A → A
 unless None refused accepted = accepted
 unless (Some refusal) refused accepted = refused refusal
@@ -108,6 +108,7 @@ unless (Some refusal) refused accepted = refused refusal
 abbrev pub passes : Option BookRefusal → Result Unit BookRefusal
 passes refusal = unless refusal Err (Ok tt)
 
+-- what an entry answers: the row that turns it down, else its number
 abbrev pub answer_of : Entry → Table → Result ℕ BookRefusal
 answer_of entry t = unless (rows (view_of t) entry) Err (Ok (number_of entry t))
 
@@ -126,6 +127,7 @@ applied (Commit plant buyer volume) t =
     with_commitments (t.commitments.count + 1)
     (slice_set t.commitments.rows t.commitments.count (record { plant = plant; buyer = buyer; volume = volume })) (sold_more plant volume t)
 
+-- the table after an entry; a refused one changes nothing
 abbrev pub after_entry : Entry → Table → Table
 after_entry entry t = unless (rows (view_of t) entry) (λ _. t) (applied entry t)
 
@@ -138,8 +140,8 @@ after_calls after (c ∷ cs) t = after_calls after cs (after c t)
 abbrev pub after_entries : List Entry → Table → Table
 after_entries entries t = after_calls after_entry entries t
 
--- A competitive unit that comes with the outcome of making its price rows: the book's rows are looked at first, then the
--- outcome. It is added where neither turns it down, as a competitive unit is.
+-- A competitive unit that comes with the outcome of making its price rows: the book's rows are looked at first, then
+-- the outcome. It is added where neither turns it down, as a competitive unit is.
 abbrev pub priced_answer : {R : Type 0} → ℕ → ℕ → ℕ → Result R CurveRefusal → Table → Result (ℕ × R) UnitRefusal
 priced_answer plant declared internal (Ok made) t =
     unless (rows (view_of t) (AddCompetitive plant declared internal)) (λ refusal. Err (Book refusal)) (Ok (number_of (AddCompetitive plant declared internal) t, made))

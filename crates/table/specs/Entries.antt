@@ -26,11 +26,12 @@ lacks number count = number == 0 || nat_lt count number
 abbrev pub row_place : ℕ → ℕ → Option ℕ
 row_place number count = cond (lacks number count) None (Some (number - 1))
 
--- no such unit, or the group is neither 1 nor 2
+-- whether a group lacks a unit of that number; other groups than 1 and 2 have no units
 abbrev pub lacks_unit : View → ℕ → ℕ → Bool
 lacks_unit v group unit =
     cond (group == 1) (lacks unit v.competitive) (cond (group == 2) (lacks unit v.guaranteed) true)
 
+-- what turns down a new competitive unit, and a new guaranteed one
 abbrev pub competitive_rows : View → ℕ → ℕ → ℕ → Option BookRefusal
 competitive_rows v plant declared internal =
     cond (lacks plant v.plants) (Some NoPlant)
@@ -55,6 +56,7 @@ new_unit_rows plants units u =
     (cond (nat_lt 2000000 u.declared || nat_lt 2000000 (unwrap_or u.seasonal 0)) (Some Energy)
     (cond (nat_lt 1 u.feeds) (Some OutsideSet) None))))
 
+-- what turns down a commitment
 abbrev pub commit_rows : View → ℕ → ℕ → ℕ → Option BookRefusal
 commit_rows v plant buyer volume =
     cond (lacks plant v.plants) (Some NoPlant)
@@ -63,14 +65,15 @@ commit_rows v plant buyer volume =
     (cond (volume == 0 || nat_lt 20000000 volume) (Some Energy)
     (cond (nat_lt 20000000 (v.sold plant + volume)) (Some Commitments) None))))
 
--- one more row of a table with a room
+-- what turns down one row more, where a table has room for so many
 abbrev pub room_rows : ℕ → ℕ → Option BookRefusal
 room_rows count room = cond (nat_le room count) (Some Full) None
 
--- one more row of a table with a room, with a loss
+-- what turns down a new plant or buyer, by its loss and the room for it
 abbrev pub added_rows : ℕ → ℕ → ℕ → Option BookRefusal
 added_rows count room loss = cond (nat_le room count) (Some Full) (cond (nat_lt 2000 loss) (Some Percentage) None)
 
+-- what turns down a correction, a put aside and a take back
 abbrev pub correct_rows : View → ℕ → ℕ → ℕ → Option BookRefusal
 correct_rows v group unit declared =
     cond (lacks_unit v group unit) (Some NoUnit) (cond (nat_lt 2000000 declared) (Some Energy) None)
@@ -89,7 +92,7 @@ rows v (TakeBack group unit) = unit_rows v group unit
 rows v (AddBuyer loss) = added_rows v.buyers 64 loss
 rows v (Commit plant buyer volume) = commit_rows v plant buyer volume
 
--- the volumes of the commitments that name a plant
+-- a commitment's volume if it names the plant, and the sum of these volumes
 abbrev pub volume_of : ℕ → Commitment → ℕ
 volume_of plant c = cond (c.plant == plant) c.volume 0
 
@@ -97,7 +100,7 @@ abbrev pub sold_by : ℕ → List Commitment → ℕ
 sold_by plant [] = 0
 sold_by plant (c ∷ cs) = volume_of plant c + sold_by plant cs
 
--- what a table holds of such a sum, by the plant's number
+-- that sum as a table holds it, by the plant's number
 abbrev pub sold_at : List ℕ → ℕ → ℕ
 sold_at sold plant = cond (plant == 0) 0 (slice_index sold (plant - 1))
 

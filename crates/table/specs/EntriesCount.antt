@@ -1,5 +1,5 @@
--- Which accepted entry counts for what an hour has, said by where entries stand in the list of the accepted. The list is the
--- newest first, so what stands before an entry in it came later.
+-- Which accepted entry counts for what an hour has, said by where entries stand in the list of the accepted. The list
+-- is the newest first, so what stands before an entry in it came later.
 use Rattle.std.specs.Prelude.{◌≡◌, ℕ, ◌+◌, Bool, true, false, List, [], ◌∷◌, ◌++◌, length, Some, None, Option, ◌==◌, slice_index_or}
 use Rattle.std.specs.List.{count_by}
 use Rattle.table.specs.History.{plants_in, units_in, buyers_in, commitments_of, sold_in, loss_in, buyer_loss_in, unit_in}
@@ -41,8 +41,8 @@ Moves g n (PutAside group unit) = (group ≡ g) × (unit ≡ n)
 Moves g n (TakeBack group unit) = (group ≡ g) × (unit ≡ n)
 Moves g n e = ⊥
 
--- A unit that was added, with the entries that came later. Corrections change its declared energy alone; what puts it aside or
--- takes it back changes nothing else either.
+-- A unit that was added, with the entries that came later. Corrections change its declared energy alone; what puts it
+-- aside or takes it back changes nothing else either.
 pub record AddedUnit (g n p d : ℕ) (s : Option ℕ) (i f : ℕ) (later h : List Entry) : Type 0 where
   pub plant : (unit_in g n h).plant ≡ p
   pub seasonal : (unit_in g n h).seasonal ≡ s
@@ -51,13 +51,15 @@ pub record AddedUnit (g n p d : ℕ) (s : Option ℕ) (i f : ℕ) (later h : Lis
   pub declared : NoneOf (Corrects g n) later → (unit_in g n h).declared ≡ d
   pub aside : NoneOf (Moves g n) later → (unit_in g n h).aside ≡ false
 
--- A correction, a put aside and a take back each count until the next one of the same unit, whatever else stands between.
+-- A correction, a put aside and a take back each count until the next one of the same unit, whatever else stands
+-- between.
 pub record LastCounts (h : List Entry) : Type 0 where
   pub corrected : (later before : List Entry) (g n declared : ℕ) → h ≡ later ++ (Correct g n declared ∷ before) → NoneOf (Corrects g n) later → (unit_in g n h).declared ≡ declared
   pub put_aside : (later before : List Entry) (g n : ℕ) → h ≡ later ++ (PutAside g n ∷ before) → NoneOf (Moves g n) later → (unit_in g n h).aside ≡ true
   pub taken_back : (later before : List Entry) (g n : ℕ) → h ≡ later ++ (TakeBack g n ∷ before) → NoneOf (Moves g n) later → (unit_in g n h).aside ≡ false
 
--- The n-th plant that was added has number n; so have the units of each group over all plants, the buyers and the commitments.
+-- The n-th plant that was added has number n; so have the units of each group over all plants, the buyers and the
+-- commitments.
 pub record Numbered (h : List Entry) : Type 0 where
   pub plants : plants_in h ≡ count_by adds_a_plant h
   pub units : (g : ℕ) → units_in g h ≡ count_by (adds_a_unit g) h
@@ -75,7 +77,7 @@ pub record EachSold (h : List Entry) : Type 0 where
   pub others : (later before : List Entry) (e : Entry) (p : ℕ) → h ≡ later ++ (e ∷ before) → ((b v : ℕ) → (e ≡ Commit p b v) → ⊥) → sold_in p h ≡ sold_in p (later ++ before)
   pub nothing : h ≡ [] → (p : ℕ) → sold_in p h ≡ 0
 
--- all of these, of accepted entries
+-- what an hour's accepted entries count for: the last of each unit, the numbers of rows, and each commitment once
 pub record EntriesCount (h : List Entry) : Type 0 where
   pub last : LastCounts h
   pub numbered : Numbered h

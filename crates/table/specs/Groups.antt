@@ -13,6 +13,7 @@ use Rattle.table.specs.declared.records.Table.{Table}
 use Rattle.table.specs.declared.refusals.BookRefusal.{BookRefusal}
 use Rattle.table.specs.declared.refusals.BookRefusal.TheVariants.{NoUnit}
 
+-- the group of a number, and a group's units in a table
 abbrev pub group_named : ℕ → Result Group BookRefusal
 group_named number = cond (number == 1) (Ok Competitive) (cond (number == 2) (Ok Guaranteed) (Err NoUnit))
 

@@ -45,6 +45,7 @@ adds_buyer (TakeBack group unit) = 0
 adds_buyer (AddBuyer loss) = 1
 adds_buyer (Commit plant buyer volume) = 0
 
+-- how many plants, units of a group and buyers were entered
 abbrev pub plants_in : List Entry → ℕ
 plants_in [] = 0
 plants_in (e ∷ h) = plants_in h + adds_plant e
@@ -123,7 +124,7 @@ view_in h = record {
   sold = λ p. sold_in p h;
 }
 
--- an entry is accepted where no row turns it down, by the entries accepted before it
+-- the history after an entry: with it where no row turns it down, by the entries accepted before it
 abbrev pub next_history : Entry → List Entry → List Entry
 next_history e h = unless (rows (view_in h) e) (λ _. h) (e ∷ h)
 
@@ -142,7 +143,7 @@ number_in (Commit plant buyer volume) h = length (commitments_of h) + 1
 abbrev pub answer_in : Entry → List Entry → Result ℕ BookRefusal
 answer_in e h = unless (rows (view_in h) e) Err (Ok (number_in e h))
 
--- the accepted of a list of entries made in turn
+-- the history after the entries of a list, made in turn
 abbrev pub accepted : List Entry → List Entry → List Entry
 accepted h [] = h
 accepted h (e ∷ es) = accepted (next_history e h) es
@@ -194,15 +195,15 @@ pub record Stands (h : List Entry) (t : Table) : Type 0 where
   pub commitments : CommitmentsStand h t.commitments.count t.commitments.rows
   pub sold : SoldStands h t.sold
 
--- A table holds the plants and units of a history, and each plant's commitments come to the same sum. One that stands for
--- a history does.
+-- A table holds the plants and units of a history, and each plant's commitments come to the same sum. One that stands
+-- for a history does.
 pub record StandsInSum (h : List Entry) (t : Table) : Type 0 where
   pub plants : PlantsStand h t.plants.count t.plants.rows
   pub competitive : UnitsStand 1 h t.competitive
   pub guaranteed : UnitsStand 2 h t.guaranteed
   pub sold : (p : ℕ) → (view_of t).sold p ≡ sold_in p h
 
--- nothing is entered
+-- the units of a group, and a table, in which nothing is entered
 abbrev pub empty_units : UnitTable
 empty_units = record { count = 0; rows = replicate 128 (new_unit 0 0 None 0 0) }
 

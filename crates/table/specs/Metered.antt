@@ -11,7 +11,7 @@ use Rattle.table.specs.declared.records.UnitReading.{UnitReading}
 use Rattle.table.specs.declared.records.Table.{Table}
 use Rattle.table.specs.declared.refusals.BookRefusal.{BookRefusal}
 
--- the last accepted reading of a unit, and the last use of a buyer, if there is one
+-- the last accepted reading of a unit of group 1, of one of group 2, and the last use of a buyer, if there is one
 abbrev pub last_competitive : ℕ → List Reading → Option UnitReading
 last_competitive i [] = None
 last_competitive i (Competitive unit reading ∷ rs) = cond (i == unit) (Some reading) (last_competitive i rs)
@@ -30,11 +30,11 @@ last_use b (Competitive unit reading ∷ rs) = last_use b rs
 last_use b (Guaranteed unit reading ∷ rs) = last_use b rs
 last_use b (Use buyer used ∷ rs) = cond (b == buyer) (Some used) (last_use b rs)
 
--- a reading is accepted where no row turns it down; what was entered no longer changes
+-- the accepted readings after one more: with it where no row turns it down, by what was entered
 abbrev pub next_readings : View → Reading → List Reading → List Reading
 next_readings v r rs = unless (reading_rows v r) (λ _. rs) (r ∷ rs)
 
--- the accepted of a list of readings made in turn
+-- the accepted readings after those of a list, made in turn
 abbrev pub accepted_readings : View → List Reading → List Reading → List Reading
 accepted_readings v rs [] = rs
 accepted_readings v rs (r ∷ more) = accepted_readings v (next_readings v r rs) more

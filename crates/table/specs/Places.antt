@@ -6,7 +6,7 @@ use Rattle.table.specs.declared.records.Plant.{Plant}
 use Rattle.table.specs.declared.records.Table.{Table}
 use Rattle.table.specs.declared.records.UnitRecord.{UnitRecord}
 
--- the unit at a place of a group's table
+-- the unit at a place of its group, a plant and a buyer
 abbrev pub unit_at : UnitTable → ℕ → UnitRecord
 unit_at t i = slice_index_or t.rows i (new_unit 0 0 None 0 0)
 

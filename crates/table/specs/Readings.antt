@@ -15,7 +15,7 @@ use Rattle.table.specs.declared.records.Table.{Table}
 use Rattle.table.specs.declared.refusals.BookRefusal.{BookRefusal}
 use Rattle.table.specs.declared.refusals.BookRefusal.TheVariants.{NoUnit, NoBuyer, Energy, Price, OutsideSet, Limited}
 
--- the greatest of a unit's energies
+-- the greatest of a unit's energies, of those that its control reports, and of its adjustments
 abbrev pub greatest_energy : CompetitiveEnergies → ℕ
 greatest_energy e = max (max (max (max e.net e.accepted) e.lost) e.limited) e.executed
 
@@ -29,7 +29,7 @@ greatest_adjustment a = max (max a.opportunity a.planning) a.cooperation
 abbrev pub outside : Control → Bool
 outside c = nat_lt 400 c.day || nat_lt 1439 c.minute
 
--- the rows for a reading, whichever unit it is of
+-- what turns down a reading by its fields, whichever unit it is of
 abbrev pub measured_rows : UnitReading → Option BookRefusal
 measured_rows r =
     cond (nat_lt 2000000 (max (greatest_energy r.energies) (greatest_control r.control))) (Some Energy)
@@ -63,14 +63,17 @@ applied_reading (Guaranteed unit reading) t = with_guaranteed (read_unit (kept_r
 applied_reading (Use buyer used) t =
     with_buyers t.buyers.count (slice_set t.buyers.rows (buyer - 1) (read_use used (buyer_at t (buyer - 1)))) t
 
+-- the number that an accepted reading answers: of its unit or buyer
 abbrev pub reading_number : Reading → ℕ
 reading_number (Competitive unit reading) = unit
 reading_number (Guaranteed unit reading) = unit
 reading_number (Use buyer used) = buyer
 
+-- what a reading answers: the row that turns it down, else that number
 abbrev pub reading_answer : Reading → Table → Result ℕ BookRefusal
 reading_answer reading t = unless (reading_rows (view_of t) reading) Err (Ok (reading_number reading))
 
+-- the table after a reading; a refused one changes nothing
 abbrev pub after_reading : Reading → Table → Table
 after_reading reading t = unless (reading_rows (view_of t) reading) (λ _. t) (applied_reading reading t)
 

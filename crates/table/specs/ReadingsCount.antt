@@ -1,5 +1,5 @@
--- Which accepted reading counts: the last one of its unit or buyer, said by where readings stand in the list of the accepted.
--- The list is the newest first, so what stands before a reading in it came later.
+-- Which accepted reading counts: the last one of its unit or buyer, said by where readings stand in the list of the
+-- accepted. The list is the newest first, so what stands before a reading in it came later.
 use Rattle.std.specs.Prelude.{◌≡◌, ℕ, List, ◌∷◌, ◌++◌, None, Some}
 use Rattle.table.specs.EntriesCount.{NoneOf}
 use Rattle.table.specs.Metered.{last_competitive, last_guaranteed, last_use}

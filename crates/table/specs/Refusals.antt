@@ -19,7 +19,7 @@ refusal_number Price = 9
 refusal_number OutsideSet = 10
 refusal_number Limited = 11
 
--- of a unit with its price rows
+-- the number of a refused unit that came with its price rows: that of the refusal within
 abbrev pub unit_refusal_number : UnitRefusal → ℕ
 unit_refusal_number (Book refusal) = refusal_number refusal
 unit_refusal_number (Rows refusal) = curve_number refusal

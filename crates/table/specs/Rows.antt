@@ -15,6 +15,7 @@ use Rattle.table.specs.declared.rows.Rows.{Rows}
 abbrev pub UnitTable : Type 0
 UnitTable = Rows UnitRecord 128
 
+-- the figures of a plant before closing
 abbrev pub no_plant_figures : PlantFigures
 no_plant_figures = record { committed = 0; allocated = 0; run = 0; support = 0; rate = 0; cost = 0 }
 
@@ -23,6 +24,7 @@ abbrev pub closed_figures : ℕ → ℕ → PlantFigures
 closed_figures committed run =
     record { committed = committed; allocated = committed - run; run = run; support = 0; rate = 0; cost = 0 }
 
+-- the figures of a unit, the hour and a buyer that nothing has written
 abbrev pub no_unit_figures : UnitFigures
 no_unit_figures = record { allocated = 0; billed = 0; payment = 0 }
 
@@ -32,6 +34,7 @@ no_hour_figures = record { billed = 0; committed = 0; unassigned = 0 }
 abbrev pub no_buyer_figures : BuyerFigures
 no_buyer_figures = record { share = 0; net = pos 0 }
 
+-- a plant, a unit and a buyer as they are entered: without readings and figures
 abbrev pub new_plant : ℕ → Plant
 new_plant loss = record { loss = loss; figures = no_plant_figures }
 
@@ -51,7 +54,7 @@ new_unit plant declared seasonal internal feeds =
 abbrev pub new_buyer : ℕ → Buyer
 new_buyer loss = record { loss = loss; used = None; figures = no_buyer_figures }
 
--- another declared gross energy; the reading stays
+-- a unit with another declared gross energy, and all else as it was
 abbrev pub corrected : ℕ → UnitRecord → UnitRecord
 corrected declared u =
     record {
@@ -65,7 +68,7 @@ corrected declared u =
       figures = u.figures;
     }
 
--- put aside, or taken back
+-- a unit put aside, or taken back
 abbrev pub moved : Bool → UnitRecord → UnitRecord
 moved aside u =
     record {
@@ -79,7 +82,7 @@ moved aside u =
       figures = u.figures;
     }
 
--- a reading in place of an earlier one
+-- a unit with a reading in place of an earlier one
 abbrev pub with_reading : UnitReading → UnitRecord → UnitRecord
 with_reading reading u =
     record {
@@ -93,11 +96,11 @@ with_reading reading u =
       figures = u.figures;
     }
 
--- one row more
+-- rows with one row more behind those that are entered
 abbrev pub added : {T : Type 0} {N : ℕ} → T → Rows T N → Rows T N
 added row t = record { count = t.count + 1; rows = slice_set t.rows t.count row }
 
--- the unit of a number changed by f, and no other
+-- a group's units with that of a number changed by f, and no other
 abbrev pub changed : (UnitRecord → UnitRecord) → ℕ → UnitTable → UnitTable
 changed f unit t =
     record {
@@ -105,11 +108,11 @@ changed f unit t =
       rows = slice_set t.rows (unit - 1) (f (slice_index_or t.rows (unit - 1) (new_unit 0 0 None 0 0)));
     }
 
--- the reading of the unit of a number, and of no other
+-- a group's units with a reading of that of a number, and of no other
 abbrev pub read_unit : UnitReading → ℕ → UnitTable → UnitTable
 read_unit reading unit t = changed (with_reading reading) unit t
 
--- how a guaranteed unit's reading is kept
+-- how a guaranteed unit's reading is kept: the energies and adjustments that it lacks are 0
 abbrev pub kept_reading : GuaranteedReading → UnitReading
 kept_reading r =
     record {
@@ -118,6 +121,6 @@ kept_reading r =
       control = r.control;
     }
 
--- a buyer's use in place of an earlier one
+-- a buyer with a use in place of an earlier one
 abbrev pub read_use : ℕ → Buyer → Buyer
 read_use used b = record { loss = b.loss; used = Some used; figures = b.figures }

@@ -1,5 +1,5 @@
--- The table of refusals, row by row: when a row applies to an entry or a reading, by the entries accepted before it. The first
--- row that applies, in the table's order, turns the call down.
+-- The table of refusals, row by row: when a row applies to an entry or a reading, by the entries accepted before it.
+-- The first row that applies, in the table's order, turns the call down.
 use Rattle.std.specs.Prelude.{◌≡◌, ℕ, ◌+◌, Bool, false, not, ◌||◌, List, [], ◌∷◌, Ok, Result, ◌==◌, nat_le, nat_lt}
 use Rattle.std.specs.List.{count_by, find, list_any}
 use Rattle.std.specs.Result.{result_err}
@@ -13,7 +13,7 @@ use Rattle.table.specs.declared.readings.Reading.TheVariants.{Competitive, Guara
 use Rattle.table.specs.declared.refusals.BookRefusal.{BookRefusal}
 use Rattle.table.specs.declared.refusals.BookRefusal.TheVariants.{NoPlant, NoUnit, NoBuyer, Full, Percentage, Energy, Commitments, Price, OutsideSet, Limited}
 
--- the rows in their order
+-- the table's rows for entries and readings, in their order
 abbrev pub table_rows : List BookRefusal
 table_rows = NoPlant ∷ NoUnit ∷ NoBuyer ∷ Full ∷ Percentage ∷ Energy ∷ Commitments ∷ Price ∷ OutsideSet ∷ Limited ∷ []
 
@@ -82,6 +82,7 @@ entry_number (TakeBack group unit) h = unit
 entry_number (AddBuyer loss) h = count_by adds_a_buyer h + 1
 entry_number (Commit plant buyer volume) h = count_by commits h + 1
 
+-- the number of an accepted reading: that of its unit or buyer
 abbrev pub named_number : Reading → ℕ
 named_number (Competitive unit r) = unit
 named_number (Guaranteed unit r) = unit

@@ -21,6 +21,7 @@ pub record Answered {C : Type 0} (answer : C → Table → Result ℕ BookRefusa
   pub answered : (i : ℕ) → i < length calls → i < length before → answer_at after i ≡ answer (slice_index_or calls i d) (after_calls after_call (take i calls) start)
   pub others : (i : ℕ) → length calls ≤ i → answer_at after i ≡ answer_at before i
 
+-- the answers of a list of entries, and of a list of readings
 abbrev pub EntriesAnswered : List Entry → Table → Answers → Answers → Type 0
 EntriesAnswered entries start before after = Answered answer_of after_entry (AddPlant 0) entries start before after
 

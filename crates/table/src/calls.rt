@@ -10,7 +10,7 @@ use crate::refusals::BookRefusal;
 
 /// A call on a table: an entry or a reading.
 pub(crate) trait Call: Copy {
-    // What it answers, and the table after it.
+    // What it answers on a table, and what it makes of the table.
     ghost answer: { Self → Table → Result ℕ BookRefusal };
 
     ghost after: { Self → Table → Table };
@@ -32,8 +32,8 @@ fn note(answers: &mut [Result<u32, BookRefusal>], place: usize, answer: Result<u
 }
 
 impl Table {
-    // Makes calls in turn, and writes down what each answers, as far as there is room. By places: the calls go on where
-    // the answers end, and a zip would stop there.
+    // Makes calls in turn, and writes down what each answers, as far as there is room. Calls past the end of the
+    // answers are made all the same.
     pub(crate) fn make_all<C: Call>(
         &mut self,
         calls: &[C],

@@ -61,7 +61,7 @@ fn declared_by(units: &[UnitRecord], plant: u32) -> u32
         .sum()
 }
 
-// Gives each unit its amount, if it is the plant's. By places: nothing is proved of the units that a zip writes.
+// Gives each unit its amount, if it is the plant's.
 fn allocate_all(units: &mut [UnitRecord], plant: u32, amounts: &[u32])
     requires { length units.old ≤ length amounts.now }
     ensures { (k : ℕ) → k < length units.old → slice_index_or units.new k (new_unit 0 0 None 0 0) ≡ allocated_to plant (slice_index amounts.now k) (slice_index_or units.old k (new_unit 0 0 None 0 0)) }
@@ -108,9 +108,8 @@ impl UnitTable {
     }
 }
 
-// Offers of both groups side by side, as the public `close` takes them.
 impl Table {
-    // The commitments of the plant at a place.
+    // The commitments of the plant at a place; over 20,000,000, which accepted entries never come to, read as that.
     #[tactic(auto, using(crate::proofs::Sold::sold_of))]
     fn committed(&self, place: usize) -> u32
         requires { place < 32 }
@@ -137,8 +136,9 @@ impl Table {
         self.plants.rows[place] = Plant { loss, figures };
     }
 
-    /// Closes the hour: splits each plant's commitments over its units. The law of a closed hour then holds. In a history
-    /// that is not one of accepted entries, commitments over 20,000,000 are read as 20,000,000.
+    /// Closes the hour: splits each plant's commitments over its units by an offer for each, `offers` for group 1 and
+    /// `guaranteed` for group 2, by place. The law of a closed hour then holds. A plant's commitments over 20,000,000,
+    /// which accepted entries never come to, are read as 20,000,000.
     pub fn close<O: Offer, G: Offer>(&mut self, offers: &[O], guaranteed: &[G])
         ensures after { Closed O.Curve.prices offers.now G.Curve.prices guaranteed.now self.old self.new }
         ensures law { (h : List Entry) → Proper h → Stands h self.old → ClosingLaw O.Curve.prices offers.now G.Curve.prices guaranteed.now h self.new }
@@ -147,12 +147,11 @@ impl Table {
         self.close_plants(offers, guaranteed);
     }
 
-    // Closes every plant. The laws of `close` follow from `Closed`, which the loop proves alone.
+    // Closes every plant that is entered.
     fn close_plants<O: Offer, G: Offer>(&mut self, offers: &[O], guaranteed: &[G])
         ensures { Closed O.Curve.prices offers.now G.Curve.prices guaranteed.now self.old self.new }
     {
-        // By places: closing a plant reads the table's commitments and writes three of its arrays, and its promise speaks of
-        // the whole table before and after, so it takes the whole table.
+        // Closing a plant reads what it has sold, and writes its row and its units of both groups.
         let entered = self.plants.entered().len();
         for place in 0..entered {
             self.close_plant(place, offers, guaranteed);

@@ -16,44 +16,72 @@ use crate::refusals::{BookRefusal, UnitRefusal};
 use crate::rows::Rows;
 use curves::CurveRefusal;
 
-/// An entry of an open hour. Plants, units and buyers go by their numbers, from 1. Any number may be given, also of a group
-/// or in `feeds`: one that is outside its set is refused.
+/// An entry of an open hour. Plants, units and buyers go by their numbers, from 1. Any number may be given in any
+/// field: the first refusal of those named here that applies turns the entry down.
 #[derive(Clone, Copy)]
 pub enum Entry {
+    /// A new plant; refused with 4 or 5.
     AddPlant {
+        /// Loss to the reference point (L), hundredths of a percent, at most 2,000.
         loss: u32,
     },
+    /// A new competitive unit; refused with 1, 4, 5 or 6.
     AddCompetitive {
+        /// Number of its plant.
         plant: u32,
+        /// Declared gross energy, kWh, at most 2,000,000.
         declared: u32,
+        /// Internal consumption (ρ), hundredths of a percent, at most 2,000.
         internal: u32,
     },
+    /// A new guaranteed unit; refused with 1, 4, 5, 6 or 10.
     AddGuaranteed {
+        /// Number of its plant.
         plant: u32,
+        /// Declared gross energy, kWh, at most 2,000,000.
         declared: u32,
+        /// Seasonal gross energy, kWh, at most 2,000,000.
         seasonal: u32,
+        /// Internal consumption (ρ), hundredths of a percent, at most 2,000.
         internal: u32,
+        /// β: 1 if it delivers to the distribution grid, else 0.
         feeds: u32,
     },
+    /// Another declared gross energy of a unit; refused with 2 or 6.
     Correct {
+        /// 1 competitive, 2 guaranteed.
         group: u32,
+        /// Number of the unit in its group.
         unit: u32,
+        /// Declared gross energy, kWh, at most 2,000,000.
         declared: u32,
     },
+    /// A unit is put aside, so that it doesn't count at closing; refused with 2.
     PutAside {
+        /// 1 competitive, 2 guaranteed.
         group: u32,
+        /// Number of the unit in its group.
         unit: u32,
     },
+    /// A unit is taken back, so that it counts; refused with 2.
     TakeBack {
+        /// 1 competitive, 2 guaranteed.
         group: u32,
+        /// Number of the unit in its group.
         unit: u32,
     },
+    /// A new buyer; refused with 4 or 5.
     AddBuyer {
+        /// Loss, hundredths of a percent, at most 2,000.
         loss: u32,
     },
+    /// Energy that a plant sells ahead to a buyer; refused with 1, 3, 4, 6 or 7.
     Commit {
+        /// Number of the plant.
         plant: u32,
+        /// Number of the buyer.
         buyer: u32,
+        /// Energy, kWh, from 1 to 20,000,000; a plant's volumes come to at most 20,000,000.
         volume: u32,
     },
 }
@@ -113,8 +141,6 @@ impl Table {
         Ok(place)
     }
 
-    // `answer_of` and `after_entry` are the two promises of the public `enter`; each part of it makes them of its entry.
-    // Plants and buyers share the check and the adding; what is left is two lines for each.
     fn add_plant(&mut self, loss: u32) -> Result<u32, BookRefusal>
         ensures answer { result ≡ answer_of (Entry.AddPlant loss) self.old }
         ensures after { self.new ≡ after_entry (Entry.AddPlant loss) self.old }
@@ -139,8 +165,9 @@ impl Table {
         Ok(self.units_mut(group).add(unit))
     }
 
-    /// Adds a competitive unit that comes with the outcome of making its price rows, and hands these back with its number.
-    /// The book's refusals come first, then that of the rows; where either refuses nothing is added.
+    /// Adds a competitive unit that comes with the outcome of making its price rows, and hands these back with its
+    /// number. Refused with 1, 4, 5 or 6, then with the outcome's 8 or 9; nothing is then added. The table doesn't keep
+    /// the rows.
     pub fn add_priced<R: Drop>(
         &mut self,
         plant: u32,
@@ -197,7 +224,8 @@ impl Table {
         Ok(unit)
     }
 
-    /// Takes an entry: answers the number of the row that it made or changed, or what turned it down.
+    /// Takes an entry: answers the number of the row that it made or changed, or the first refusal that applies
+    /// (`Entry` has those of each). A refused entry changes nothing.
     pub fn enter(&mut self, entry: Entry) -> Result<u32, BookRefusal>
         ensures answer { result ≡ answer_of entry self.old }
         ensures after { self.new ≡ after_entry entry self.old }
@@ -238,7 +266,8 @@ impl Table {
         }
     }
 
-    /// Takes entries in turn; the refused ones change nothing. Writes down what each answers, as far as there is room.
+    /// Takes entries in turn; the refused ones change nothing. The answer of each is written at its place of `answers`,
+    /// and those past its end are not written down.
     pub fn enter_all(&mut self, entries: &[Entry], answers: &mut [Result<u32, BookRefusal>])
         ensures after { self.new ≡ after_entries entries.now self.old }
         ensures answered { EntriesAnswered entries.now self.old answers.old answers.new }

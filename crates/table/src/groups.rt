@@ -6,10 +6,12 @@ ghost use Rattle.table.specs.Groups.{group_named, units_of, LendsUnits};
 use crate::records::{Table, UnitTable};
 use crate::refusals::BookRefusal;
 
-/// A contract group of units. Callers name it by its number, 1 or 2.
+/// A contract group of units. Callers name it by its number; one that is neither 1 nor 2 is refused with 2.
 #[derive(Clone, Copy, Debug, PartialEq)]
 pub enum Group {
+    /// Group 1.
     Competitive,
+    /// Group 2.
     Guaranteed,
 }
 
@@ -28,7 +30,7 @@ impl TryFrom<u32> for Group {
 }
 
 impl Table {
-    /// The units of a group.
+    /// The units of a group, over all plants.
     pub fn units(&self, group: Group) -> &UnitTable
         ensures { result.now ≡ units_of group self.now }
     {

@@ -16,19 +16,29 @@ use crate::records::{Adjustments, GuaranteedReading, Table, UnitReading};
 use crate::refusals::BookRefusal;
 use settlement::{CompetitiveEnergies, Control};
 
-/// A reading of a closed hour, by the number of its unit or buyer.
+/// A reading of a closed hour, by the number of its unit or buyer. Any number may be given in any field: the first
+/// refusal of those named here that applies turns the reading down.
 #[derive(Clone, Copy)]
 pub enum Reading {
+    /// What a buyer used; refused with 3 or 6.
     Use {
+        /// Number of the buyer.
         buyer: u32,
+        /// Energy, kWh, at most 50,000,000.
         used: u32,
     },
+    /// Of a competitive unit; refused with 2, 6, 9, 10 or 11.
     Competitive {
+        /// Number of the unit in group 1.
         unit: u32,
+        /// Its 17 fields.
         reading: UnitReading,
     },
+    /// Of a guaranteed unit; refused with 2, 6 or 10.
     Guaranteed {
+        /// Number of the unit in group 2.
         unit: u32,
+        /// Its 9 fields.
         reading: GuaranteedReading,
     },
 }
@@ -90,7 +100,6 @@ impl UnitReading {
     }
 }
 
-// By the numbers that the reading holds, as the public calls take them.
 impl Table {
     fn read_unit(
         &mut self,
@@ -120,7 +129,8 @@ impl Table {
         Ok(buyer)
     }
 
-    /// Takes a reading: answers the number of the row that it changed, or what turned it down.
+    /// Takes a reading: answers the number of its unit or buyer, or the first refusal that applies (`Reading` has those
+    /// of each). It replaces an earlier one whole; a refused one changes nothing.
     pub fn read(&mut self, reading: Reading) -> Result<u32, BookRefusal>
         ensures answer { result ≡ reading_answer reading self.old }
         ensures after { self.new ≡ after_reading reading self.old }
@@ -136,7 +146,8 @@ impl Table {
         }
     }
 
-    /// Takes readings in turn; the refused ones change nothing. Writes down what each answers, as far as there is room.
+    /// Takes readings in turn; the refused ones change nothing. The answer of each is written at its place of
+    /// `answers`, and those past its end are not written down.
     pub fn read_all(&mut self, readings: &[Reading], answers: &mut [Result<u32, BookRefusal>])
         ensures after { self.new ≡ after_readings readings.now self.old }
         ensures answered { ReadingsAnswered readings.now self.old answers.old answers.new }

@@ -7,31 +7,33 @@ use curves::CurveRefusal;
 use std::error::Error;
 use std::fmt;
 
-/// A refusal of the book.
+/// A refusal of the book: a row of the table of refusals (docs/refusals.md). It prints as `refused with N`.
 #[derive(Clone, Copy, Debug, PartialEq)]
 pub enum BookRefusal {
+    /// No plant of that number was entered.
     NoPlant = 1,
-    /// No such unit, or no such group.
+    /// No unit of that number was entered in the group, or there is no such group.
     NoUnit = 2,
+    /// No buyer of that number was entered.
     NoBuyer = 3,
-    /// The table for the entry is full.
+    /// No room is left for a further plant, unit, buyer or commitment.
     Full = 4,
-    /// A percentage is over 2,000.
+    /// A loss or an internal consumption is over 2,000 hundredths of a percent.
     Percentage = 5,
-    /// A unit's energy, a buyer's use or a volume is outside its limits.
+    /// A unit's energy over 2,000,000 kWh, a use over 50,000,000 kWh, or a volume that isn't from 1 to 20,000,000 kWh.
     Energy = 6,
-    /// The plant's commitments would pass 20,000,000.
+    /// The plant's commitments would pass 20,000,000 kWh.
     Commitments = 7,
-    /// A price, a rate, a coefficient or an adjustment is over its limit.
+    /// A number of a header is over its limit, or an adjustment over 100,000,000 rial.
     Price = 9,
-    /// A mark, a maintenance day or an exit minute is outside its set.
+    /// α or β is over 1, a maintenance day over 400, or an exit minute over 1,439.
     OutsideSet = 10,
-    /// More energy was made under a technical limit than was accepted and lost.
+    /// UL energy is over accepted and lost energy together.
     Limited = 11,
 }
 
 impl BookRefusal {
-    /// The refusal's number in the table of refusals.
+    /// The refusal's number in the table of refusals, 1 to 7 or 9 to 11.
     pub fn number(self) -> u32
         ensures { result ≡ refusal_number self }
     {
@@ -39,15 +41,17 @@ impl BookRefusal {
     }
 }
 
-/// Why a unit with its price rows is turned down: by the book, or since its rows could not be made.
+/// Why a unit with its price rows is turned down. It prints as the refusal within.
 #[derive(Clone, Copy, Debug, PartialEq)]
 pub enum UnitRefusal {
+    /// The book's: 1, 4, 5 or 6.
     Book(BookRefusal),
+    /// Its rows could not be made: 8 or 9.
     Rows(CurveRefusal),
 }
 
 impl UnitRefusal {
-    /// The refusal's number in the table of refusals.
+    /// The number of the refusal within.
     pub fn number(self) -> u32
         ensures { result ≡ unit_refusal_number self }
     {
@@ -58,7 +62,6 @@ impl UnitRefusal {
     }
 }
 
-// Conversions and texts are written out: a derive promises neither text nor variant.
 impl From<BookRefusal> for UnitRefusal {
     ghost from_gives = { λ book result. result ≡ Book book };
 

@@ -1,4 +1,4 @@
-// Rows of a fixed array, the first of which are entered. Fixed arrays: the engine has no heap.
+// Rows in an array of fixed length: the engine has no heap.
 ghost use Rattle.std.specs.Prelude.{◌≡◌, ◌+◌, ◌*◌, ◌<◌, min, length, take, IfSome, OnOk};
 ghost use Rattle.table.specs.Effects.{passes};
 ghost use Rattle.table.specs.Entries.{room_rows, row_place};
@@ -6,10 +6,12 @@ ghost use Rattle.table.specs.Rows.{added};
 
 use crate::refusals::BookRefusal;
 
-/// Rows of a fixed array, of which the first `count` are entered. A count past the array's room is read as its room.
+/// Rows of one kind, of which the first `count` are entered. The row of number n, from 1, is at place n - 1.
 #[derive(Clone, Copy)]
 pub struct Rows<T, const N: usize> {
+    /// How many are entered; over `N` is read as `N`.
     pub count: usize,
+    /// Room for `N` rows, those that are entered first.
     pub rows: [T; N],
 }
 
@@ -21,8 +23,7 @@ impl<T: Copy, const N: usize> Rows<T, N> {
         Rows { count: 0, rows }
     }
 
-    // No proof follows a part of an array that a method lends for writing, so writers cut `rows[..entered]` themselves.
-    /// The rows that are entered.
+    /// The rows that are entered, at most `N`, lent for reading.
     pub fn entered(&self) -> &[T]
         ensures value { result.now ≡ take (min self.now.count N) self.now.rows }
         ensures few { length result.now ≡ min self.now.count N }
@@ -52,7 +53,7 @@ impl<T: Copy, const N: usize> Rows<T, N> {
         self.count as u32
     }
 
-    /// The place of the row of a number, from 1, if such a row is entered.
+    /// The place, below `N`, of the row of a number, from 1; `None` where no such row is entered.
     pub fn place(&self, number: u32) -> Option<usize>
         ensures place { result ≡ row_place number (min self.now.count N) }
         ensures fits { IfSome result (λ place. place < N) }
