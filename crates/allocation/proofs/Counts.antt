@@ -26,7 +26,7 @@ count_to price e p r counted (suc n) le =
     (λ (past : r ≤ n). omega (arith, count_to price e p r counted n (omega arith), one_dear (price (suc n)) p (counted.dear (suc n) (omega arith) le)))
     (cases_lt n r)
 
--- the count is the one that the definition gives
+-- a count of the kWh that cost at most p is the one that the definition gives
 pub count_is : (price : ℕ → ℕ) (e p r : ℕ) → AtMost price e p r → r ≡ count_of price e p
 count_is price e p r counted = omega (arith, count_to price e p r counted e (omega arith), counted.within)
 
@@ -68,7 +68,7 @@ unfolding count_of
 count_none price zero = refl
 count_none price (suc n) = omega (arith, count_none price n, one_dear (suc (price (suc n))) 0 (omega arith))
 
--- a count by the definition has the threshold that the count found has
+-- where there is a count of the first kWh that cost at most p, the definition's is one
 pub at_most_count : (price : ℕ → ℕ) (e p r : ℕ) → AtMost price e p r → AtMost price e p (count_of price e p)
 at_most_count price e p r counted = subst (AtMost price e p) (count_is price e p r counted) counted
 

@@ -13,7 +13,7 @@ use Rattle.allocation.proofs.Sums.{sum_cong, sum_le, some_less}
 not_both : (g : Group) (i k j m : ℕ) → Before g i k j m → Before g j m i k → ⊥
 not_both g i k j m first second = omega arith
 
--- no unit has more in one than in the other
+-- of two lists of amounts in merit order, no unit has more in one than in the other
 no_more : (g : Group) (share : ℕ) (a b : ℕ → ℕ) → MeritOrder g share a → MeritOrder g share b → (i : ℕ) → i < g.units → a i < b i → ⊥
 no_more g share a b by-a by-b i lt less =
     let same : total g a ≡ total g b = by-a.covered ∙ sym by-b.covered in

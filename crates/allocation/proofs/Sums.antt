@@ -33,7 +33,7 @@ sum_le zero f h each = omega arith
 sum_le (suc n) f h each =
     omega (arith, sum_le n f h (below_suc (λ i. f i ≤ h i) n each), each n (omega arith))
 
--- all at most, and one less
+-- where every place has at most as much and one has less, so has the sum
 pub sum_lt : (n : ℕ) (f h : ℕ → ℕ) (z : ℕ) → z < n → f z < h z → ((i : ℕ) → i < n → f i ≤ h i) → sum_of n f < sum_of n h
 unfolding sum_of
 sum_lt zero f h z lt less each = absurd (omega arith)

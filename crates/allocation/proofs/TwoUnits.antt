@@ -34,7 +34,7 @@ each_unit P one two (suc (suc i)) lt = absurd (omega arith)
 within : (a b : ℕ) → a ≤ 100 → b ≤ 100 → Within two_units (amounts a b)
 within a b la lb = each_unit (λ i. amounts a b i ≤ two_units.limit i) (omega arith) (omega arith)
 
--- nothing is left to take
+-- where both have 100, no kWh within the limits is left
 full : (i k j m : ℕ) → i < 2 → j < 2 → 1 ≤ k → k ≤ amounts 100 100 i → amounts 100 100 j < m → m ≤ two_units.limit j → Before two_units i k j m
 full i k j m it jt low high = each_unit (λ j. amounts 100 100 j < m → m ≤ two_units.limit j → Before two_units i k j m)
     (λ above within. absurd (omega arith)) (λ above within. absurd (omega arith)) j jt
@@ -47,7 +47,7 @@ merit_full share le = record {
   order = full;
 }
 
--- the untaken kWh cost 500
+-- where they have 70 and 80, each kWh that is not taken costs 500
 dear : (j m : ℕ) → j < 2 → amounts 70 80 j < m → two_units.price j m ≡ 500
 dear j m jt = each_unit (λ j. amounts 70 80 j < m → two_units.price j m ≡ 500)
     (λ above. second 50 300 50 500 m (omega arith)) (λ above. second 80 400 20 500 m (omega arith)) j jt
@@ -81,7 +81,7 @@ worked_example = record {
   left_201 = refl;
 }
 
--- what is promised of a split pins the amounts of 150
+-- what is promised of a split leaves only 70 and 80 for a share of 150
 pub pinned : (first second : SteppedOffer) (share : ℕ) (row : List ℕ) (left : ℕ) → first ≡ two_steps (step 50 300) (step 50 500) → second ≡ two_steps (step 80 400) (step 20 500) → share ≡ 150 → length row ≡ 2 → Split (group_of stepped_offer_price (first ∷ (second ∷ [])) (100 ∷ (100 ∷ [])) 2) share (amount_at row) left → row ≡ 70 ∷ (80 ∷ [])
 pinned first second share row left is-first is-second is-150 two promised =
     let of = λ (o p : SteppedOffer) (s : ℕ). Split (group_of stepped_offer_price (o ∷ (p ∷ [])) (100 ∷ (100 ∷ [])) 2) s (amount_at row) left in
@@ -89,7 +89,7 @@ pinned first second share row left is-first is-second is-150 two promised =
     let split = subst (of (two_steps (step 50 300) (step 50 500)) (two_steps (step 80 400) (step 20 500))) is-150 known in
     ext_get_or 0 row (70 ∷ (80 ∷ [])) two (λ i lt. sym (split.only (amounts 70 80) worked_example.of_150 i (omega arith)))
 
--- an offer that is made of two steps, as they are known
+-- an offer made of two steps is that of the steps that they are equal to
 pub offer_made : (s t a b : Step) (made : Result SteppedOffer CurveRefusal) (offer : SteppedOffer) → s ≡ a → t ≡ b → made ≡ stepped_offer_made (s ∷ (t ∷ [])) → made ≡ Ok offer → stepped_offer_made (a ∷ (b ∷ [])) ≡ Ok (two_steps a b) → offer ≡ two_steps a b
 offer_made s t a b made offer first second is-made is-ok known =
     ap (λ r. unwrap_or (result_ok r) offer) (sym is-ok ∙ is-made ∙ ap (λ x. stepped_offer_made (x ∷ (t ∷ []))) first ∙ ap (λ x. stepped_offer_made (a ∷ (x ∷ []))) second ∙ known)

@@ -1,10 +1,11 @@
--- A contract group: its units' prices and limits, and what amounts of kWh for its units come to.
+-- A contract group: its units' prices and limits, and what amounts of kWh for its units add up to and cost.
 -- A unit goes by its place in the group, from 0.
 use Rattle.std.specs.Prelude.{ℕ, zero, suc, ◌+◌, ◌<◌, ◌≤◌, min, List, [], ◌∷◌, length, slice_index}
 use Rattle.curves.specs.Limits.{read_energy}
 use Rattle.curves.specs.Prices.{cost_of}
 
 pub record Group : Type 0 where
+  -- how many units it has
   pub units : ℕ
   -- the price of each kWh of each unit
   pub price : ℕ → ℕ → ℕ
@@ -24,7 +25,7 @@ Within g amount = (i : ℕ) → i < g.units → amount i ≤ g.limit i
 abbrev pub total : Group → (ℕ → ℕ) → ℕ
 total g amount = sum_of g.units amount
 
--- what amounts cost together: each unit's first kWh up to its amount
+-- what amounts cost together: the cost of each unit's kWh up to its amount
 abbrev pub cost : Group → (ℕ → ℕ) → ℕ
 cost g amount = sum_of g.units (λ i. cost_of (g.price i) (amount i))
 

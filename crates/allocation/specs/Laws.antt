@@ -3,11 +3,11 @@ use Rattle.std.specs.Prelude.{◌≡◌, ℕ, suc, ◌-◌, ◌<◌, ◌≤◌, 
 use Rattle.allocation.specs.Groups.{Group, Within, total, cost}
 use Rattle.allocation.specs.Merit.{MeritOrder}
 
--- amounts leave uncovered the share less their sum, or 0 if the sum is greater
+-- how many kWh of a share its amounts don't cover: none where they come to more than the share
 abbrev pub uncovered : Group → ℕ → (ℕ → ℕ) → ℕ
 uncovered g share amount = share - total g amount
 
--- any amounts of the share in merit order are these
+-- these are the only amounts of the share in merit order
 abbrev pub OnlyThese : Group → ℕ → (ℕ → ℕ) → Type 0
 OnlyThese g share amount = (other : ℕ → ℕ) → MeritOrder g share other → (i : ℕ) → i < g.units → other i ≡ amount i
 

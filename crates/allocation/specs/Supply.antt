@@ -20,17 +20,17 @@ pub record Parted (g : Group) (p i : ℕ) : Type 0 where
   pub cheaper : AtMost (λ k. suc (g.price i k)) (g.limit i) p (below g p i)
   pub marginal : AtMost (g.price i) (g.limit i) p (up_to g p i)
 
--- no kWh of n units within their limits is over p
+-- no kWh of the first n units, within their limits, costs more than p
 abbrev pub NoneOver : Group → ℕ → ℕ → Type 0
 NoneOver g n p = (i : ℕ) → i < n → (k : ℕ) → 1 ≤ k → k ≤ g.limit i → g.price i k ≤ p
 
--- p is the least price at which n units cover the share, or if none is, a price that none of their kWh is over
+-- p is the least price at which n units cover the share; where no price is, none of their kWh costs more than p
 pub record Clearing (g : Group) (n share p : ℕ) : Type 0 where
   pub enough : (share ≤ sum_of n (up_to g p)) ⊎ NoneOver g n p
   pub least : (q : ℕ) → q < p → sum_of n (up_to g q) < share
 
--- n units are filled at price p: each has its cheaper kWh and some of those at p, in the units' order, until nothing
--- of `before` is left but `after`
+-- n units are filled at price p: each has its cheaper kWh, and unit by unit `before` kWh at p are given out, of which
+-- `after` are left
 pub record Filled (g : Group) (n p before after : ℕ) (amount : ℕ → ℕ) : Type 0 where
   pub parted : (i : ℕ) → i < n → Parted g p i
   pub low : (i : ℕ) → i < n → below g p i ≤ amount i

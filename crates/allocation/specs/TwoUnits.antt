@@ -1,4 +1,4 @@
--- A worked example. Unit 1 offers 50 kWh at 300 and then 500, unit 2 offers 80 at 400 and then 500; both limits are 100.
+-- A worked example. Unit 1 offers 50 kWh at 300 and then 500, unit 2 offers 80 at 400 and then 500. Each limit is 100.
 use Rattle.std.specs.Prelude.{◌≡◌, ℕ, [], ◌∷◌}
 use Rattle.curves.specs.Steps.{step_price}
 use Rattle.curves.specs.declared.steps.Step.{Step}

@@ -1,9 +1,9 @@
--- A group's units in memory, and the group that its busy units are: those with a limit above 0.
+-- A group's units in memory. Its busy units, those with a limit above 0, are a group too.
 use Rattle.std.specs.Prelude.{◌≡◌, ℕ, ◌<◌, slice_index}
 use Rattle.allocation.specs.Groups.{Group, sum_of, units_of}
 use Rattle.allocation.specs.declared.group.Units.{Units}
 
--- the part of a group that the units at `count` places are
+-- the units at `count` places of a group, as a group
 abbrev pub part_of : Group → ℕ → (ℕ → ℕ) → Group
 part_of g count place = record {
   units = count;
@@ -15,12 +15,12 @@ part_of g count place = record {
 abbrev pub place_in : {O : Type 0} → Units O → ℕ → ℕ
 place_in u i = slice_index u.busy i
 
--- the group that the busy units are
+-- the busy units, as a group
 abbrev pub units_in : {O : Type 0} → (O → ℕ → ℕ) → Units O → Group
 units_in prices u = part_of (units_of prices u.offers.now u.limits.now u.count) u.count (place_in u)
 
--- Of n units those with a limit above 0 stand at `count` places, in the units' order. What the others have none of has
--- the same sum over the busy units.
+-- Of n units those with a limit above 0 stand at `count` places, in the units' order. A sum over all units to which the
+-- others add nothing is that over the busy units.
 pub record BusyPlaces (limit : ℕ → ℕ) (n count : ℕ) (place : ℕ → ℕ) : Type 0 where
   pub inside : (i : ℕ) → i < count → place i < n
   pub rises : (i j : ℕ) → i < j → j < count → place i < place j

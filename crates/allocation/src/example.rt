@@ -11,8 +11,8 @@ fn step(width: u32, price: u32) -> Step
     Step { width, price }
 }
 
-/// Splits 150 kWh over two units with the limit 100: one offers 50 kWh at 300 and then 500, the other 80 at 400 and
-/// then 500.
+/// Splits 150 kWh over two units with the limit 100: one offers 50 kWh at 300 rial per MWh and then 500, the other 80
+/// kWh at 400 and then 500. Answers their amounts, 70 and 80 kWh.
 pub fn worked_example() -> [u32; 2]
     ensures stands { WorkedExample }
     ensures amounts { result ≡ 70 ∷ (80 ∷ []) }

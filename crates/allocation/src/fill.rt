@@ -1,4 +1,4 @@
-// The split itself.
+// The split of a share over a group's units.
 ghost use Rattle.std.specs.Prelude.{◌≡◌, ℕ, suc, ◌<◌, length};
 ghost use Rattle.curves.specs.Limits.{read_energy};
 ghost use Rattle.curves.specs.Prices.{AtMost};
@@ -10,7 +10,7 @@ ghost use Rattle.allocation.specs.Supply.{Filled};
 use crate::group::Units;
 use curves::Offer;
 
-// How many of an offer's first `energy` kWh cost less than `price`. Both as the public `count_at_most` takes them.
+// How many of an offer's first `energy` kWh cost less than `price`.
 fn count_below<O: Offer>(offer: &O, energy: u32, price: u32) -> u32
     ensures { AtMost (λ k. suc (O.Curve.prices offer.now k)) (read_energy energy) price result }
 {
@@ -20,8 +20,8 @@ fn count_below<O: Offer>(offer: &O, energy: u32, price: u32) -> u32
 }
 
 impl<'a, O: Offer> Units<'a, O> {
-    // Gives each busy unit its kWh cheaper than `price`, and `left` more at that price, unit by unit; answers what is
-    // then left.
+    // Gives each busy unit its kWh cheaper than `price`, and unit by unit those at that price until `left` of them are
+    // given; answers how many of the `left` are not.
     fn fill(&self, price: u32, left: u32, amounts: &mut [u32]) -> u32
         requires { (i : ℕ) → i < self.now.count → place_in self.now i < length amounts.old }
         ensures filled { let g = units_in O.Curve.prices self.now in Filled g g.units price left result (λ i. amount_at amounts.new (place_in self.now i)) }
@@ -41,7 +41,9 @@ impl<'a, O: Offer> Units<'a, O> {
     }
 }
 
-/// Splits a share over a group's units in merit order, writes their amounts, and answers what stays uncovered.
+/// Splits `share` kWh over a group's units in merit order, writes each unit's kWh at its place of `amounts`, and
+/// answers the kWh that stay uncovered. A unit is one of the first 128 places, if `offers`, `limits` and `amounts` all
+/// have it; other amounts are written as 0. A limit is in kWh, and over 2,000,000 it is read as 2,000,000.
 pub fn split<O: Offer>(offers: &[O], limits: &[u32], share: u32, amounts: &mut [u32]) -> u32
     ensures { Split (group_of O.Curve.prices offers.now limits.now (length amounts.old)) share (amount_at amounts.new) result }
 {

@@ -1,4 +1,4 @@
-// The units of a contract group, and what their amounts cost.
+// The units of a contract group, and what amounts for them cost.
 ghost use Rattle.std.specs.Prelude.{◌≡◌, ℕ, ◌<◌, ◌≤◌, length, slice_index};
 ghost use Rattle.allocation.specs.Groups.{group_of, row_cost};
 
@@ -7,9 +7,9 @@ use curves::Offer;
 /// The most units of a group.
 pub const MAX_UNITS: usize = 128;
 
-// A group's units: each has an offer and a limit, at the same place of two rows.
-// Two rows, since a caller in fixed memory has the limits apart from the offers.
-// `busy` has first the places of the units with a limit above 0. The others get nothing, so only these are visited.
+// A group's units: each has an offer and a limit, at the same place of two rows, as the caller has them.
+// `busy` begins with the places of the `count` busy units, those with a limit above 0. The others get nothing, so only
+// these are visited.
 #[derive(Drop)]
 pub(crate) struct Units<'a, O> {
     pub offers: &'a [O],
@@ -56,7 +56,8 @@ impl<'a, O: Offer> Units<'a, O> {
     }
 }
 
-/// What amounts cost together: for each unit the cost of its first kWh up to its amount.
+/// What amounts cost together, in thousandths of a rial: for each unit the cost of its kWh up to its amount, in kWh. An
+/// amount over 2,000,000 is read as 2,000,000; the first 128 places with an offer and an amount count.
 pub fn total_cost<O: Offer>(offers: &[O], amounts: &[u32]) -> u64
     ensures { result ≡ row_cost O.Curve.prices offers.now amounts.now }
 {

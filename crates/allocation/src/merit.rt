@@ -24,7 +24,6 @@ impl<'a, O: Offer> Units<'a, O> {
     pub(crate) fn supply_below(&self, price: u32) -> u32
         ensures { let g = units_in O.Curve.prices self.now in result ≡ total g (below g price) }
     {
-        // `map_or` proves in none of four forms tried.
         let Some(under) = price.checked_sub(1) else {
             return 0;
         };
@@ -47,7 +46,7 @@ impl<'a, O: Offer> Units<'a, O> {
     pub(crate) fn marginal_price(&self, share: u32) -> u32
         ensures { let g = units_in O.Curve.prices self.now in Clearing g g.units share result }
     {
-        // A search over prices: no slice holds them.
+        // By halving, since more kWh cost at most a higher price.
         let mut low = 0u32;
         let mut high = self.dearest();
         while low < high {

@@ -5,8 +5,8 @@ use crate::random::Random;
 use crate::tallies::Tally;
 use std::alloc::Global;
 
-/// Compares so many times what is drawn from a seed. The comparison is handed the heap: a closure that keeps it gets no
-/// proof in a function with a const parameter.
+/// Calls `is_same` so many `times`, with the heap and with numbers drawn from `seed`, and counts the calls and those
+/// that answer false. The first error of a call ends it and is the answer.
 pub fn compare<E, F: Fn(Global, &mut Random) -> Result<bool, E>>(
     heap: Global,
     seed: u64,

@@ -1,4 +1,5 @@
-// What programs share that compare the engine with a second calculation: pseudo-random numbers, and counts of what differs.
+// What programs share that compare the engine with a second calculation: pseudo-random numbers, and counts of what
+// differs.
 #![tactic(auto)]
 
 mod comparisons;

@@ -5,7 +5,7 @@ ghost use Rattle.comparing.specs.Draws.{number_below, state_after, next_state, n
 
 use std::marker::Model;
 
-/// Where numbers are drawn from, one after the other.
+/// A source of numbers, drawn one after the other by a linear congruential generator.
 #[derive(Drop)]
 pub struct Random {
     state: u64,
@@ -18,6 +18,7 @@ impl Model for Random {
 }
 
 impl Random {
+    /// A source that gives the same numbers whenever it has the same seed.
     pub fn new(seed: u64) -> Random
         ensures { result ≡ seed }
     {
@@ -36,7 +37,7 @@ impl Random {
         (self.state >> 33) as u32
     }
 
-    /// A number below `bound`, or 0. Nothing is drawn where the bound is 0.
+    /// A number below `bound`. Where the bound is 0 it is 0, and nothing is drawn.
     pub fn below(&mut self, bound: u32) -> u32
         ensures range { 0 < bound → result < bound }
         ensures number { result ≡ number_below self.old bound }
@@ -45,7 +46,7 @@ impl Random {
         if bound == 0 { 0 } else { self.next() % bound }
     }
 
-    /// One of so many places, where there are any.
+    /// One of `count` places, from 0 on. Where there are none it is None, and nothing is drawn.
     pub fn place(&mut self, count: usize) -> Option<usize>
         ensures range { IfSome result (λ place. place < count) }
         ensures number { SomeIff result (0 < count) (number_below self.old count) }
@@ -58,7 +59,7 @@ impl Random {
         }
     }
 
-    /// One of the numbers, or 0 where there are none.
+    /// One of the numbers. Where there are none it is 0, and nothing is drawn.
     pub fn one_of(&mut self, numbers: &[u32]) -> u32
         ensures number { let place = number_below self.old (length numbers.now) in
             result ≡ slice_index_or numbers.now place 0 }
@@ -67,7 +68,7 @@ impl Random {
         self.place(numbers.len()).map_or(0, |place| numbers[place])
     }
 
-    /// 0 half of the time, else a number below `bound`.
+    /// 0 about half of the time, else a number below `bound`, or 0 where that is 0.
     pub fn often_zero(&mut self, bound: u32) -> u32
         ensures none { number_below self.old 2 ≡ 0 →
             (result ≡ 0) × (self.new ≡ next_state self.old) }
@@ -82,7 +83,7 @@ impl Random {
         }
     }
 
-    /// A number from 1 to `count`, or to 1 where that is 0; now and then 0.
+    /// 0 about once in 24 times, else a number from 1 to `count`, or 1 where that is 0.
     pub fn one_up_to(&mut self, count: u32) -> u32
         ensures none { number_below self.old 24 ≡ 0 →
             (result ≡ 0) × (self.new ≡ next_state self.old) }

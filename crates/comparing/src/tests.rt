@@ -4,7 +4,7 @@ use crate::random::Random;
 use std::alloc::{AllocError, Global};
 use std::test::Fail;
 
-// Of the first eight numbers from 1 on the second and the sixth are odd.
+// Of the first eight numbers that this seed gives, the second and the sixth are odd.
 #[test]
 fn odd_numbers_differ(rt: HostRuntime) -> Result<(), Fail> {
     let is_even = |_heap: Global, random: &mut Random| -> Result<bool, AllocError> {

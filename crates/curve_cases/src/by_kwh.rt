@@ -6,16 +6,15 @@ use std::alloc::{AllocError, Global};
 /// The last kWh of a curve.
 pub const LAST_KWH: u32 = 2_000_000;
 
-/// The highest price.
+/// The highest price, in rial per MWh.
 pub const TOP_PRICE: u32 = 10_000_000;
 
 /// How many kWh are calculated together.
 pub const WINDOW: u32 = 120;
 
-// Each kind is handed the heap for the list that it answers.
-/// A curve that the second calculation knows.
+/// A curve that the second calculation has prices for.
 pub trait ByKwh: Curve {
-    /// The prices of the 120 kWh after the first `skipped`.
+    /// The prices of the 120 kWh after the first `skipped`, in rial per MWh; an error where memory runs out.
     fn by_kwh(&self, heap: Global, skipped: u32) -> Result<Vec<u32>, AllocError>;
 }
 
@@ -55,7 +54,7 @@ impl<'a, C: ByKwh> ByKwh for Raised<'a, C> {
     }
 }
 
-// The steps in use, each field outside its limits as it is read.
+// The steps in use, each field outside its limits read as the nearest within.
 fn read_steps(heap: Global, table: &StepTable, rises: bool) -> Result<Vec<Step>, AllocError> {
     let count = (table.count as usize).max(1);
     let mut lowest = 0u32;

@@ -8,15 +8,19 @@ use std::alloc::{AllocError, Global};
 /// How many kWh come before the last 120.
 pub const FAR: u32 = LAST_KWH - WINDOW;
 
-// The end of the ceilings that are drawn otherwise.
+// A ceiling that isn't drawn at a limit or past it is below this, in rial per MWh.
 const CEILINGS_END: u32 = 6_000;
 
 /// What was found of the curves of one kind, and of modified and raised curves over them.
 #[derive(Clone, Copy, Default)]
 pub struct KindTally {
+    /// The curves themselves.
     pub own: Tally,
+    /// Modified curves over them.
     pub modified: Tally,
+    /// Raised curves over them.
     pub raised: Tally,
+    /// Modified curves over those raised curves.
     pub both: Tally,
 }
 

@@ -47,7 +47,6 @@ impl<O: Offer> Priced<O> {
         })
     }
 
-    // Energy and price as the count takes them.
     fn same_count(&self, energy: u32, price: u32) -> bool {
         let first = self.prices.iter().take(energy as usize);
         let count = first.filter(|each| **each <= price).count();
@@ -55,7 +54,7 @@ impl<O: Offer> Priced<O> {
     }
 }
 
-// Whether more kWh than there are count as all.
+// Whether all kWh count at the last one's price, and a number over 2,000,000 counts as 2,000,000.
 fn same_far_counts<O: Offer>(offer: &O) -> bool {
     let top = offer.price(LAST_KWH);
     let under_top = offer.count_at_most(LAST_KWH, top.saturating_sub(1));

@@ -8,11 +8,12 @@ use std::array;
 // Rates and ceilings at their limits, or past them.
 const PRICES: [u32; 5] = [0, 1, 10_000_000, 10_000_001, u32::MAX];
 
-/// The end of the rates that are drawn otherwise: above their limit.
+/// A rate that isn't drawn at a limit or past it is below this, in rial per MWh; it may exceed the highest price too.
 pub(crate) const RATES_END: u32 = 12_000_000;
 
-/// A curve that stands on no other curve.
+/// A curve with no other curve below it.
 pub trait Drawn: ByKwh + Drop {
+    /// One with pseudo-random fields, often outside their limits.
     fn draw(random: &mut Random) -> Self;
 }
 
@@ -66,7 +67,7 @@ fn one_in<F: FnOnce(&mut Random) -> u32>(
     }
 }
 
-// Mostly small, and often 0.
+// How much dearer the next step is: mostly little, and often 0.
 fn any_rise(random: &mut Random) -> u32 {
     match random.below(12) {
         0 => random.below(3_000_000),
@@ -84,7 +85,6 @@ fn any_table(random: &mut Random) -> StepTable {
     StepTable { count, steps }
 }
 
-// The heap beside what the list is drawn from: `Random` allocates nothing.
 /// A list of 0 to 12 steps: one in five with many fields outside their limits, and two in five with few.
 pub(crate) fn any_list(heap: Global, random: &mut Random) -> Result<Vec<Step>, AllocError> {
     let odds = random.one_of(&[5, 40, 40, u32::MAX, u32::MAX]);
@@ -99,7 +99,7 @@ pub(crate) fn any_price(random: &mut Random, end: u32) -> u32 {
     one_in(2, random, &PRICES, |random| random.below(end))
 }
 
-/// How many first kWh are free.
+/// How many kWh of a modified curve are free: at a limit or past it, or below 130.
 pub(crate) fn any_free(random: &mut Random) -> u32 {
     let limits = [0, 120, 1_999_950, 2_000_000, u32::MAX];
     one_in(2, random, &limits, |random| random.below(130))

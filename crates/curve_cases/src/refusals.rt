@@ -14,7 +14,6 @@ pub(crate) fn compare_lists<const RISES: bool>(
     compare(heap, 3, lists, same_drawn::<RISES>)
 }
 
-// Takes what `compare` hands on.
 fn same_drawn<const RISES: bool>(heap: Global, random: &mut Random) -> Result<bool, AllocError> {
     let list = any_list(heap, random)?;
     same_made::<RISES>(heap, list.as_slice())
@@ -32,8 +31,8 @@ fn same_made<const RISES: bool>(heap: Global, list: &[Step]) -> Result<bool, All
     }
 }
 
-// The number of the refusal of a list of steps; None where it is accepted. A number, since the numbers that callers get
-// are compared too: 8 for the steps, 9 for a price.
+// The number of the refusal of a list of steps, 8 for the steps and 9 for a price; None where it is accepted. The
+// numbers that callers get are compared with it.
 fn refusal_number(rises: bool, list: &[Step]) -> Option<u32> {
     let falls = !list.is_sorted_by_key(|step| step.price);
     let widths_fit = list.iter().all(|step| (1..=LAST_KWH).contains(&step.width));

@@ -1,4 +1,4 @@
--- Lemmas on the checks of a step list: what they leave to check, and that an accepted list is read as it stands.
+-- Lemmas on the checks of a list of steps: what each finds, and that an accepted list is read as it stands.
 use Rattle.std.proofs.Common.{◌≡◌, ℕ, ◌<◌, ◌≤◌, Bool, true, false, ◌&&◌, ◌||◌, List, [], ◌∷◌, length, get_or, not, cond, zero, suc, ◌==◌, nat_le, nat_lt, Less, Equal, Greater, Some, sym, refl, ap, ◌∙◌, arith}
 use Rattle.std.proofs.lemmas.List.{take_at}
 use Rattle.std.proofs.lemmas.Bool.{true≢false, cond_both, and_parts, or_parts, or_from, or_left, or_right, lt-ltb, le-ltb, leb-true, ltb-false, eqb-false, not-false}
@@ -11,7 +11,7 @@ use Rattle.curves.specs.Steps.{price_read, read_from, steps_of}
 use Rattle.curves.specs.Refusals.{widths_fit, prices_fit, price_falls, falls, bad_steps, padded_steps}
 use Rattle.curves.specs.declared.steps.Step.{Step}
 
--- the tests of the steps one by one
+-- all widths fit where each does, and all prices where each does
 pub all_wide : (l : List Step) → list_all (λ s. nat_le 1 s.width && nat_le s.width 2000000) l ≡ widths_fit l
 all_wide [] = refl
 all_wide (s ∷ ss) = ap (λ b. (nat_le 1 s.width && nat_le s.width 2000000) && b) (all_wide ss)

@@ -2,7 +2,7 @@
 use Rattle.std.proofs.Common.{◌≡◌, ℕ, zero, suc, ◌+◌, ◌-◌, ◌*◌, ◌<◌, ◌≤◌, min, sym, ap, ◌∙◌, add-zero, add-suc, mul-zero, mul-suc, arith}
 use Rattle.curves.specs.Prices.{cost_of, Stretch, NeverFalls, AtMost, BeforeDearer}
 
--- n more kWh of one price
+-- the cost of n more kWh of one price
 pub cost_level : (price : ℕ → ℕ) (p a n : ℕ) → ((m : ℕ) → a < m → m ≤ a + n → price m ≡ p) → cost_of price (a + n) ≡ cost_of price a + p * n
 unfolding cost_of
 cost_level price p a zero level = rw (add-zero, mul-zero, add-zero)
@@ -11,7 +11,7 @@ cost_level price p a (suc n) level =
     let here = level (suc (a + n)) (omega arith) (omega arith) in
     rw add-suc (omega (arith, before, here, mul-suc p n))
 
--- from kWh a to a later kWh b of one price
+-- what the kWh after kWh a cost, up to kWh b, where they have one price
 pub cost_to : (price : ℕ → ℕ) (p a b : ℕ) → a ≤ b → ((m : ℕ) → a < m → m ≤ b → price m ≡ p) → cost_of price b ≡ cost_of price a + p * (b - a)
 cost_to price p a b le level =
     let split : b ≡ a + (b - a) = omega arith in
@@ -24,11 +24,11 @@ cost_bound price top bounded zero = omega arith
 cost_bound price top bounded (suc n) =
     omega (arith, cost_bound price top bounded n, bounded (suc n), mul-suc top n)
 
--- and none of so many kWh is over 20,000,000,000,000
+-- the cost of at most 2,000,000 kWh is at most 20,000,000,000,000
 pub cost_le : (price : ℕ → ℕ) → ((k : ℕ) → price k ≤ 10000000) → (n : ℕ) → n ≤ 2000000 → cost_of price n ≤ 20000000000000
 cost_le price each n le = omega (arith, cost_bound price 10000000 each n)
 
--- kWh of one price
+-- the cost of n kWh of one price
 pub cost_flat : (p n : ℕ) → cost_of (λ _. p) n ≡ p * n
 unfolding cost_of
 cost_flat p zero = sym (mul-zero p)

@@ -17,7 +17,7 @@ rest_here r last k xs i d p w lt priced wide h =
     let here : k ≤ read_kwh s.width = omega arith in
     ap (λ ss. rest r last ss k) (drop_more xs i d lt) ∙ cond-true _ _ _ (le-leb k (read_kwh s.width) here) ∙ sym priced
 
--- that step begins after kWh `start`, and kWh k comes after it
+-- that step begins after kWh `start`, and kWh k comes after the step
 pub rest_past : (r : Bool) (last start k : ℕ) (xs : List Step) (i : ℕ) (d : Step) (p w : ℕ) → i < length xs → p ≡ price_read r last (get_or xs i d) → w ≡ read_kwh (get_or xs i d).width → start + w < k → rest r last (drop i xs) (k - start) ≡ rest r p (drop (i + 1) xs) (k - (start + w))
 rest_past r last start k xs i d p w lt priced wide h =
     let s = get_or xs i d in

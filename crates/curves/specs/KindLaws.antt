@@ -1,5 +1,4 @@
--- The laws that the traits ask of each kind: no price is over 10,000,000, and no offer's falls. They stand in specs/, since a
--- ghost member cites no proof of its own crate.
+-- The laws that the traits ask of each kind of curve: no price is over 10,000,000, and no offer's price falls.
 use Rattle.std.specs.Prelude.{ℕ, ◌-◌, ◌<◌, ◌≤◌, Bool, true, false, cond, List, [], ◌∷◌, nat_le}
 use Rattle.std.proofs.Common.{arith}
 use Rattle.std.proofs.lemmas.Bool.{cond_both, leb-true, leb-false}
@@ -43,7 +42,7 @@ raised_bounded ceiling below k = omega arith
 abbrev offered : ℕ → List Step → ℕ → ℕ
 offered last ss k = price_after last (read_from true last ss) k
 
--- it is nowhere under that price
+-- no kWh of the steps that are left costs less than `last`
 offered_floor : (ss : List Step) (last k : ℕ) → last ≤ offered last ss k
 offered_floor [] last k = omega arith
 offered_floor (s ∷ ss) last k =

@@ -12,11 +12,11 @@ SteppedOffer = Stepped 1
 abbrev pub SteppedCost : Type 0
 SteppedCost = Stepped 0
 
--- a curve in steps: the price by its steps; where it rises, a price under the one before it read as that one
+-- a curve in steps: the price by its steps; where prices rise, one under the one before it is read as that one
 abbrev pub stepped_price : {n : ℕ} → Bool → Stepped n → ℕ → ℕ
 stepped_price rises c = step_price (steps_of rises c.table)
 
--- a stepped offer: the price by its steps, a price under the one before it read as that one
+-- a stepped offer: the price by its steps; one under the one before it is read as that one
 abbrev pub stepped_offer_price : SteppedOffer → ℕ → ℕ
 stepped_offer_price o = stepped_price true o
 

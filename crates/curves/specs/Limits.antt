@@ -1,4 +1,4 @@
--- How a number outside its limits is read: as the nearest number within them.
+-- What a number past a limit stands for: the limit itself.
 use Rattle.std.specs.Prelude.{ℕ, min, max}
 
 -- a number of kWh
@@ -13,6 +13,6 @@ read_kwh k = max 1 (min k 2000000)
 abbrev pub read_price : ℕ → ℕ
 read_price p = min p 10000000
 
--- how many steps a record has
+-- how many steps of a table are in use
 abbrev pub read_count : ℕ → ℕ
 read_count n = max 1 (min n 10)

@@ -1,4 +1,4 @@
--- What a price curve and an offer answer, over the price of each kWh.
+-- What a price curve and an offer answer, told by the price of each kWh.
 use Rattle.std.specs.Prelude.{◌≡◌, ℕ, zero, suc, ◌+◌, ◌<◌, ◌≤◌}
 
 -- the cost of the first n kWh: the sum of their prices

@@ -13,7 +13,7 @@ abbrev pub refusal_number : CurveRefusal → ℕ
 refusal_number Steps = 8
 refusal_number Price = 9
 
--- a refusal in words, in bytes
+-- the text of a refusal, in bytes
 abbrev pub refusal_text : CurveRefusal → List ℕ
 refusal_text Steps = codes "refused with 8: not 1 to 10 steps, a width not 1 to 2000000, or a price that falls"
 refusal_text Price = codes "refused with 9: a price over 10000000"
@@ -37,11 +37,11 @@ price_falls before (s ∷ ss) = nat_lt s.price before || price_falls s.price ss
 abbrev pub falls : Bool → ℕ → List Step → Bool
 falls rises before l = rises && price_falls before l
 
--- refused as a list of steps
+-- the steps are refused: 0 or over 10 of them, a width outside its limits, or a price that falls where it may not
 abbrev pub bad_steps : Bool → List Step → Bool
 bad_steps rises l = length l == 0 || (nat_lt 10 (length l) || (not (widths_fit l) || falls rises 0 l))
 
--- the list in a table's ten places, and blank steps behind it
+-- the list in a table's ten places, and steps of width 0 and price 0 behind it
 abbrev pub padded_steps : List Step → List Step
 padded_steps l = l ++ replicate (10 - length l) (record { width = 0; price = 0 })
 
@@ -51,6 +51,7 @@ judged curve rises l =
     cond (bad_steps rises l) (Err Steps)
     (cond (prices_fit l) (Ok (curve (record { count = length l; steps = padded_steps l }))) (Err Price))
 
+-- what a list of steps makes: a table, a curve in steps and a stepped offer
 abbrev pub table_made : Bool → List Step → Result StepTable CurveRefusal
 table_made rises l = judged (λ t. t) rises l
 
@@ -60,5 +61,6 @@ stepped_made rises l = judged (λ t. record { table = t }) rises l
 abbrev pub stepped_offer_made : List Step → Result SteppedOffer CurveRefusal
 stepped_offer_made l = stepped_made true l
 
+-- what a rate makes
 abbrev pub tariff_made : ℕ → Result Tariff CurveRefusal
 tariff_made rate = cond (nat_le rate 10000000) (Ok (record { rate = rate })) (Err Price)

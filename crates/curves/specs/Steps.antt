@@ -1,4 +1,4 @@
--- Lists of steps: what they mean, how a record's fields are read, and which lists are refused.
+-- Lists of steps: the price that each kWh has by them, and how the fields of a table are read.
 use Rattle.std.specs.Prelude.{◌≡◌, ℕ, ◌-◌, max, Bool, true, false, cond, List, [], ◌∷◌, take, nat_le}
 use Rattle.curves.specs.Limits.{read_kwh, read_price, read_count}
 use Rattle.curves.specs.Prices.{Stretch}
@@ -28,11 +28,11 @@ read_from rises before (s ∷ ss) =
     record { width = read_kwh s.width; price = price_read rises before s }
     ∷ read_from rises (price_read rises before s) ss
 
--- the list of steps that a record stands for
+-- the list of steps that a table stands for
 abbrev pub steps_of : Bool → StepTable → List Step
 steps_of rises t = read_from rises 0 (take (read_count t.count) t.steps)
 
--- the price of kWh k, and a stretch end from k
+-- a level of kWh k: its price, and a kWh up to which that price stays
 pub record LevelAt (price : ℕ → ℕ) (k : ℕ) (l : Level) : Type 0 where
   pub priced : l.price ≡ price k
   pub stretch : Stretch price k l.end

@@ -5,11 +5,12 @@ ghost use Rattle.curves.specs.Kinds.{modified_price};
 use crate::limits::{MAX_KWH, read_kwh};
 use crate::traits::Curve;
 
-// A type beside `Raised`: what they do with the price differs, and a field in common is no reason for one type.
-/// The first `free` kWh cost nothing, and later ones what they cost by the curve below.
+/// A curve whose first `free` kWh cost nothing; each later kWh costs what that same kWh costs by the curve below.
 #[derive(Drop)]
 pub struct Modified<'a, C: Curve> {
+    /// How many kWh are free, from kWh 1 on; from 2,000,000 on every kWh is.
     pub free: u32,
+    /// The curve that prices the later kWh, of any kind.
     pub below: &'a C,
 }
 

@@ -5,10 +5,13 @@ ghost use Rattle.curves.specs.Kinds.{raised_price};
 use crate::limits::MAX_PRICE;
 use crate::traits::Curve;
 
-/// Each kWh costs six fifths of what it costs by the curve below, at most the hour's ceiling.
+/// A curve by which each kWh costs twelve tenths of its price by the curve below, the fraction dropped, and at most the
+/// ceiling.
 #[derive(Drop)]
 pub struct Raised<'a, C: Curve> {
+    /// The hour's ceiling, in rial per MWh; over 10,000,000 it is read as 10,000,000.
     pub ceiling: u32,
+    /// The curve whose prices are raised, of any kind.
     pub below: &'a C,
 }
 

@@ -1,4 +1,4 @@
-// Why a step list or a rate is turned down.
+// Why a list of steps or a rate is refused.
 ghost use Rattle.std.specs.Prelude.{◌≡◌, Some};
 ghost use Rattle.curves.specs.Refusals.{refusal_number, refusal_text};
 
@@ -7,17 +7,17 @@ use crate::steps::MAX_STEPS;
 use std::error::Error;
 use std::fmt;
 
-/// A refusal of what would make a price curve.
+/// Why a list of steps or a rate makes no curve.
 #[derive(Clone, Copy, Debug, PartialEq, Eq)]
 pub enum CurveRefusal {
-    /// No step or too many, a width outside its limits, or an offer's price that falls.
+    /// 0 or over 10 steps, a width outside 1 to 2,000,000 kWh, or, in a stepped offer, a price under the one before it.
     Steps = 8,
-    /// A price or a rate over the highest.
+    /// A price or a rate over 10,000,000 rial per MWh.
     Price = 9,
 }
 
 impl CurveRefusal {
-    /// The refusal's number in the table of refusals.
+    /// The refusal's number in the table of refusals: 8 for `Steps`, 9 for `Price`.
     pub fn number(self) -> u32
         ensures { result ≡ refusal_number self }
     {
@@ -25,7 +25,7 @@ impl CurveRefusal {
     }
 }
 
-// By hand: a derive promises nothing of the text.
+// Written out, so that the contract says what the text is.
 impl fmt::Display for CurveRefusal {
     ghost output = { λ refusal. Some (refusal_text refusal) };
 

@@ -9,9 +9,10 @@ use crate::refusals::CurveRefusal;
 use crate::steps::{Step, StepTable};
 use crate::traits::{Curve, Offer};
 
-/// A curve in steps; where `RISES`, a price under the one before it is read as that one.
+/// A curve in steps. Where `RISES`, a price under the one before it is read as that one.
 #[derive(Clone, Copy)]
 pub struct Stepped<const RISES: bool> {
+    /// The steps; whatever they hold, they are read as 1 to 10 steps within the limits.
     pub table: StepTable,
 }
 
@@ -22,7 +23,9 @@ pub type SteppedOffer = Stepped<true>;
 pub type SteppedCost = Stepped<false>;
 
 impl<const RISES: bool> Stepped<RISES> {
-    /// The curve of a list of steps, or the list's refusal.
+    /// The curve of a list of steps, in order from kWh 1 on. Refused with `CurveRefusal::Steps` for 0 or over 10 steps,
+    /// a width outside 1 to 2,000,000 or, where `RISES`, a price under the one before it; else with
+    /// `CurveRefusal::Price` for a price over 10,000,000.
     pub fn new(list: &[Step]) -> Result<Stepped<RISES>, CurveRefusal>
         ensures answer { result ≡ stepped_made RISES list.now }
         ensures meaning { IfOk result (λ c. steps_of RISES c.table ≡ list.now) }

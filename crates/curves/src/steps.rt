@@ -11,23 +11,25 @@ use crate::refusals::CurveRefusal;
 /// The most steps of a curve.
 pub const MAX_STEPS: usize = 10;
 
-/// A width in kWh and the price of each of them.
+/// A number of kWh and the price of each of them.
 #[derive(Clone, Copy, Debug, Default, PartialEq, Eq)]
 pub struct Step {
+    /// In kWh; outside 1 to 2,000,000 it is read as the nearest of these.
     pub width: u32,
+    /// In rial per MWh; over 10,000,000 it is read as 10,000,000.
     pub price: u32,
 }
 
-/// Up to ten steps, of which the first `count` are in use.
-// A count beside an array: a plain record in fixed memory, with a meaning for whatever its fields hold. Not the table's
-// `Rows`: a count of 0 is read as 1, and this crate lies below.
+/// 1 to 10 steps in fixed memory, in order from kWh 1 on. The price of the last one goes on without end.
 #[derive(Clone, Copy)]
 pub struct StepTable {
+    /// How many of the places are in use; 0 is read as 1, and over 10 as 10.
     pub count: u32,
+    /// The steps in use, and behind them places that are not read.
     pub steps: [Step; MAX_STEPS],
 }
 
-// Kilowatt-hours of one price, up to the last of them.
+// The price of a kWh, and a later kWh, or the same, up to which it stays.
 #[derive(Clone, Copy)]
 pub(crate) struct Level {
     pub price: u32,
@@ -65,7 +67,7 @@ fn prices_fit(list: &[Step]) -> bool
     list.iter().all(|step| step.price <= MAX_PRICE)
 }
 
-// The list in a table's places, and blank steps behind it.
+// The list in a table's places, and steps of width 0 and price 0 behind it.
 fn padded(list: &[Step]) -> [Step; MAX_STEPS]
     requires { length list.now ≤ 10 }
     ensures { result ≡ padded_steps list.now }
@@ -98,7 +100,7 @@ pub(crate) fn level_in(steps: &[Step], rises: bool, kwh: u32) -> Level
 }
 
 // How many of the first `energy` kWh come before the first step that costs more than `price`, by a list of steps as it
-// is read. One walk: by stretches each would be looked up from the first step.
+// is read. It is one walk along the steps; from stretch to stretch, each look-up would begin at the first step again.
 fn count_in(steps: &[Step], rises: bool, energy: u32, price: u32) -> u32
     ensures { BeforeDearer (step_price (read_from rises 0 steps.now)) (read_energy energy) price result }
 {

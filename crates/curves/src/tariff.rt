@@ -8,14 +8,15 @@ use crate::limits::{MAX_KWH, MAX_PRICE, read_energy};
 use crate::refusals::CurveRefusal;
 use crate::traits::{Curve, Offer};
 
-/// One rate for every kWh, in rial per MWh.
+/// An offer with one rate for every kWh.
 #[derive(Clone, Copy)]
 pub struct Tariff {
+    /// In rial per MWh; over 10,000,000 it is read as 10,000,000.
     pub rate: u32,
 }
 
 impl Tariff {
-    /// The tariff of a rate; a rate over the highest price is refused.
+    /// The tariff of a rate. Refused with `CurveRefusal::Price` for a rate over 10,000,000.
     pub fn new(rate: u32) -> Result<Tariff, CurveRefusal>
         ensures answer { result ≡ tariff_made rate }
         ensures meaning { IfOk result (λ t. (k : ℕ) → tariff_price t k ≡ rate) }

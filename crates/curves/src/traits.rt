@@ -5,28 +5,28 @@ ghost use Rattle.curves.specs.Prices.{cost_of, Stretch, NeverFalls, AtMost, Befo
 
 use crate::limits::read_energy;
 
-/// A price for each kWh from 1 to 2,000,000.
+/// A price for each kWh from 1 to 2,000,000, in rial per MWh and at most 10,000,000. Any number may be asked for: kWh 0
+/// is read as kWh 1, and a number over 2,000,000 as 2,000,000.
 pub trait Curve {
     // the price of each kWh
     ghost prices: { Self → ℕ → ℕ };
 
-    /// The price of one kWh.
+    /// The price of kWh `kwh`, in rial per MWh.
     fn price(&self, kwh: u32) -> u32
         ensures { result ≡ prices self.now (read_kwh kwh) };
 
-    /// A kWh from `kwh` on up to which the price stays that of `kwh`; which one is free.
+    /// Some kWh, `kwh` or a later one, such that all from `kwh` to it have one price. It need not be the last such.
     fn stretch_end(&self, kwh: u32) -> u32
         ensures { Stretch (prices self.now) (read_kwh kwh) result };
 
-    /// The cost of the first `energy` kWh, stretch by stretch.
+    /// The cost of the first `energy` kWh, in thousandths of a rial: the sum of their prices.
     fn cost(&self, energy: u32) -> u64
         ensures { result ≡ cost_of (prices self.now) (read_energy energy) }
     {
         let energy = read_energy(energy);
         let mut total = 0u64;
         let mut done = 0u32;
-        // Each stretch begins where the one before it ended. An iterator of them is some 38 lines more for 8 fewer,
-        // and asks for a size of Self here.
+        // Each stretch begins where the one before it ended.
         while done < energy {
             let price = self.price(done + 1);
             let end = self.stretch_end(done + 1).min(energy);
@@ -40,9 +40,10 @@ pub trait Curve {
     ghost bounded: { (c : Self) (k : ℕ) → prices c k ≤ 10000000 };
 }
 
-/// A curve whose price never falls.
+/// A curve whose price never falls from one kWh to a later one.
 pub trait Offer: Curve {
-    /// How many of the first `energy` kWh cost at most `price`; these come before the rest.
+    /// How many of the first `energy` kWh cost at most `price`, in rial per MWh; these come before the rest. A `price`
+    /// over 10,000,000 is taken as it is.
     fn count_at_most(&self, energy: u32, price: u32) -> u32
         ensures rises { NeverFalls (Self.Curve.prices self.now) }
         ensures count { AtMost (Self.Curve.prices self.now) (read_energy energy) price result }
@@ -54,14 +55,13 @@ pub trait Offer: Curve {
     ghost rises: { (o : Self) → NeverFalls (Self.Curve.prices o) };
 }
 
-// How many of the first `energy` kWh come before the first that costs more than `price`. Both as the public
-// `count_at_most` takes them.
+// How many of the first `energy` kWh come before the first that costs more than `price`.
 pub(crate) fn count_before_dearer<C: Curve>(curve: &C, energy: u32, price: u32) -> u32
     ensures { BeforeDearer (C.prices curve.now) (read_energy energy) price result }
 {
     let energy = read_energy(energy);
     let mut done = 0u32;
-    // By stretches, as in `cost`: an iterator of them is longer.
+    // Each stretch begins where the one before it ended.
     while done < energy {
         if curve.price(done + 1) > price {
             return done;

@@ -1,4 +1,4 @@
--- What drops one fraction lies between the two bounds, and so a unit's payment comes about by them.
+-- A figure that drops one fraction lies between its two bounds, and so do those that make up a unit's payment.
 use Rattle.std.proofs.Common.{◌≡◌, ℕ, ◌+◌, ◌*◌, ◌/◌, ◌<◌, min, ◌==◌, refl, sym, ap, ◌∙◌, div-mul-le_self, mul_comm, arith}
 use Rattle.std.proofs.Math.Nat.{lt-mul-div-succ}
 use Rattle.std.proofs.lemmas.Bool.{cond-true, cond-false, eq-eqb, ne_eqb}

@@ -1,4 +1,4 @@
--- What holds of a running share, whatever its rounding: 0 at nothing, the whole at the end, and rising.
+-- What holds of a running share: 0 for no part, the whole for the whole total, and never less for a greater part.
 use Rattle.std.proofs.Common.{◌≡◌, ℕ, zero, suc, ◌*◌, ◌/◌, ◌<◌, ◌≤◌, true, false, cond, ◌==◌, refl, ap, ◌∙◌, mul-le-mul_left, mul-zero, le-div_iff_mul-le, div-mul-le_self, mul-div_cancel, arith}
 use Rattle.std.proofs.lemmas.Bool.{cond-false, ne_eqb}
 use native.Mathlib.Nat.{zero-div, div-zero}

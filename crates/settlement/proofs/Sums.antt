@@ -5,11 +5,11 @@ use Rattle.curves.proofs.Costs.{cost_le, cost_flat}
 use Rattle.curves.specs.Prices.{cost_of}
 use Rattle.settlement.specs.Payments.{cost_between, lesser}
 
--- what kWh suc b adds to the cost from a on
+-- what kWh b + 1 adds to the cost of the kWh after a
 abbrev adds : (ℕ → ℕ) → ℕ → ℕ → ℕ
 adds price a b = cond (leb (suc b) a) 0 (price (suc b))
 
--- with the cost of the kWh before, it is the cost of all
+-- with the cost of the kWh that are not after a, it is the cost of all b kWh
 between : (price : ℕ → ℕ) (a b : ℕ) → cost_between price a b + cost_of price (min a b) ≡ cost_of price b
 unfolding cost_between cost_of
 between price a zero =
@@ -28,7 +28,7 @@ between price a (suc b) =
     omega (arith, one, between price a b, ap (cost_of price) here))
     (cases_lt b a)
 
--- the difference of two costs
+-- it is the difference of two costs
 pub cost_difference : (price : ℕ → ℕ) (a b : ℕ) → cost_of price b - cost_of price a ≡ cost_between price a b
 cost_difference price a b =
     ⊎_elim
@@ -41,7 +41,7 @@ cost_difference price a b =
     omega (arith, between price a b, ap (cost_of price) at))
     (cases_lt b a)
 
--- the cost of the first kWh lies between none and them
+-- the cost of the first b kWh is that of the kWh after none, up to b
 pub from_start : (price : ℕ → ℕ) (b : ℕ) → cost_of price b ≡ cost_between price 0 b
 unfolding cost_of
 from_start price b = omega (arith, cost_difference price 0 b)
@@ -56,7 +56,7 @@ between_none price a b le =
 pub between_bound : (price : ℕ → ℕ) → ((k : ℕ) → price k ≤ 10000000) → (a b : ℕ) → b ≤ 2000000 → cost_between price a b ≤ 20000000000000
 between_bound price each a b le = omega (arith, between price a b, cost_le price each b le)
 
--- kWh of one price
+-- the cost where all kWh have one price
 pub between_flat : (p a b : ℕ) → cost_between (λ _. p) a b ≡ p * (b - a)
 between_flat p a b =
     ⊎_elim

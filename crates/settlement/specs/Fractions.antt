@@ -1,4 +1,4 @@
--- Where fractions are dropped: a figure drops one, of the whole product, and is told here by what lies on both sides of it.
+-- Where fractions are dropped: each figure drops one, of a whole product, and two bounds leave one number for it.
 -- A loss or an internal consumption over 2,000 is read as 2,000.
 use Rattle.std.specs.Prelude.{◌≡◌, ℕ, ◌+◌, ◌-◌, ◌*◌, ◌<◌, ◌≤◌, min, max}
 use Rattle.curves.specs.Kinds.{modified_price, raised_price}
@@ -6,7 +6,7 @@ use Rattle.curves.specs.Limits.{read_kwh}
 use Rattle.settlement.specs.Payments.{cost_between, lesser}
 use Rattle.settlement.specs.declared.payments.PaidUnit.{PaidUnit}
 
--- q is the product in whole divisors: so many are in it, and no more
+-- q is how many times the divisor is in the product: so many times, and not once more
 pub record OneFraction (q product divisor : ℕ) : Type 0 where
   pub there : q * divisor ≤ product
   pub last : product < (q + 1) * divisor
@@ -19,12 +19,12 @@ Carried loss energy r = OneFraction r (energy * (10000 - min loss 2000)) 10000
 abbrev pub CarriedGross : ℕ → ℕ → ℕ → ℕ → Type 0
 CarriedGross internal loss gross r = OneFraction r (gross * (10000 - min internal 2000) * (10000 - min loss 2000)) 100000000
 
--- How a unit's payment comes about: what of its energies is there at the reference point, where the parts of its billed kWh
--- end, and what each part costs.
+-- How a unit's payment comes about: its energies at the reference point, where the parts of its billed kWh end, and
+-- what each part costs.
 pub record PaidParts (u : PaidUnit) (offer cost : ℕ → ℕ) (ceiling payment : ℕ) : Type 0 where
   pub bill : ℕ
   pub bill_is : Carried u.loss (min u.energies.net 2000000) bill
-  -- Com, and how much of it, of accepted and lost energy and of executed energy is carried
+  -- committed energy; then that, accepted and lost energy, and executed energy, each at the reference point
   pub committed : ℕ
   pub committed_is : committed ≡ u.energies.accepted + u.energies.lost - u.energies.limited
   pub of_committed : ℕ
@@ -49,7 +49,7 @@ pub record PaidParts (u : PaidUnit) (offer cost : ℕ → ℕ) (ceiling payment 
   pub c_where_paid : 0 < a → c ≡ cost_between (λ _. modified_price u.allocated offer (read_kwh committed)) (max first second) bill
   pub sum : payment ≡ a + b + c
 
--- day support: what allocated energy is over the plant's active energy, all of it carried to the reference point at once
+-- day support: allocated energy less the plant's active energy, which is carried to the reference point as one sum
 pub record FallsShort (loss allocated active short : ℕ) : Type 0 where
   pub made : ℕ
   pub carried : Carried loss active made

@@ -5,7 +5,7 @@ use Rattle.curves.specs.Limits.{read_energy, read_kwh}
 use Rattle.settlement.specs.Reference.{at_reference, net_of, bill_of}
 use Rattle.settlement.specs.declared.payments.PaidUnit.{PaidUnit}
 
--- the cost of kWh a + 1 to b: the sum of their prices
+-- what the kWh after kWh a cost, up to kWh b
 unfoldable pub cost_between : (ℕ → ℕ) → ℕ → ℕ → ℕ
 cost_between price a zero = 0
 cost_between price a (suc b) = cost_between price a b + cond (nat_le (suc b) a) 0 (price (suc b))
@@ -22,7 +22,7 @@ billed u = bill_of u.loss u.energies.net
 abbrev pub offered : PaidUnit → ℕ
 offered u = u.energies.accepted + u.energies.lost
 
--- that less what was made under a technical limit
+-- accepted and lost energy less what was made under a technical limit, not under 0
 abbrev pub committed : PaidUnit → ℕ
 committed u = offered u - u.energies.limited
 
@@ -40,19 +40,23 @@ second_part u =
 abbrev pub modified : PaidUnit → (ℕ → ℕ) → ℕ → ℕ
 modified u offer = modified_price u.allocated offer
 
+-- the first part by the modified offer
 abbrev pub sum_a : PaidUnit → (ℕ → ℕ) → ℕ
 sum_a u offer = cost_between (modified u offer) 0 (first_part u)
 
+-- the second part by the lesser of cost curve and modified offer
 abbrev pub sum_b : PaidUnit → (ℕ → ℕ) → (ℕ → ℕ) → ℕ
 sum_b u offer cost =
     cond (nat_le (second_part u) (first_part u)) 0 (lesser cost (modified u offer) (first_part u) (second_part u))
 
+-- the rest of the billed energy: by the raised cost curve where the first part costs nothing, else at one price
 abbrev pub sum_c : PaidUnit → (ℕ → ℕ) → (ℕ → ℕ) → ℕ → ℕ
 sum_c u offer cost ceiling =
     cond (sum_a u offer == 0)
     (cost_between (raised_price ceiling cost) (max (first_part u) (second_part u)) (billed u))
     (cost_between (λ _. modified u offer (read_kwh (committed u))) (max (first_part u) (second_part u)) (billed u))
 
+-- what a competitive unit is paid
 abbrev pub competitive_payment : PaidUnit → (ℕ → ℕ) → (ℕ → ℕ) → ℕ → ℕ
 competitive_payment u offer cost ceiling = sum_a u offer + sum_b u offer cost + sum_c u offer cost ceiling
 

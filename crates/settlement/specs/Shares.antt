@@ -5,11 +5,12 @@ use Rattle.std.specs.Prelude.{ℕ, ◌+◌, ◌-◌, ◌*◌, ◌/◌, min, cond
 unfoldable pub running_share : ℕ → ℕ → ℕ → ℕ
 running_share whole part total = cond (total == 0) 0 (whole * part / total)
 
--- Group 1's share of a plant's commitments: by the declared gross of the two groups. Group 2 gets the rest.
+-- group 1's share of a plant's commitments, by the declared gross energy of both groups
 abbrev pub group_one_share : ℕ → ℕ → ℕ → ℕ
 group_one_share commitments gross1 gross2 =
     cond (gross1 + gross2 == 0) commitments (running_share commitments gross1 (gross1 + gross2))
 
+-- group 2's share: the rest
 abbrev pub group_two_share : ℕ → ℕ → ℕ → ℕ
 group_two_share commitments gross1 gross2 = commitments - group_one_share commitments gross1 gross2
 

@@ -3,15 +3,15 @@ use Rattle.std.specs.Prelude.{ℕ, ◌+◌, ◌-◌, ◌*◌, ◌/◌, min, max,
 use Rattle.settlement.specs.Reference.{kept, at_reference}
 use Rattle.settlement.specs.declared.readings.Control.{Control}
 
--- the maintenance mark: day 1, and day 2 if the exit minute of day 1 is over 780
+-- the maintenance mark is set: day 1, or day 2 with an exit minute of day 1 over 780
 abbrev pub marked : ℕ → ℕ → Bool
 marked day minute = day == 1 || (day == 2 && nat_lt 780 minute)
 
--- a unit's active energy: P_Act and its deviations, that of type 6 only where it isn't marked
+-- a unit's active energy: as reported, with its deviations, that of type 6 only where the mark is not set
 abbrev pub active_of : Control → ℕ
 active_of c = c.p_act + c.type2 + c.type3 + c.type5 + c.type8 + cond (marked c.day c.minute) 0 c.type6
 
--- day support: allocated energy that the plant's active energy, at the reference point, falls short of
+-- day support: allocated energy less the plant's active energy at the reference point, not under 0
 abbrev pub day_support : ℕ → ℕ → ℕ → ℕ
 day_support loss allocated active = allocated - at_reference loss active
 
@@ -32,7 +32,8 @@ greater None (Some q) ceiling = min q 1000000000
 greater (Some p) None ceiling = min p 1000000000
 greater (Some p) (Some q) ceiling = min (max p q) 1000000000
 
--- a plant's rate: by its own payments and energy over its allocation, and by the whole hour's
+-- a plant's rate: by its own payments and its energy over its allocation, or by the hour's money and energy over the
+-- commitments
 abbrev pub rate_of : ℕ → ℤ → ℤ → ℤ → ℕ → ℕ
 rate_of payments over hour_money hour_over ceiling =
     greater (quotient payments over) (quotient (read_money hour_money) hour_over) ceiling

@@ -1,4 +1,5 @@
-// The figures of an hour's settlement, each a function of values.
+// The figures of an hour's settlement, each a function of values. Money is in thousandths of a rial, energy in kWh,
+// prices in rial per MWh, and losses and internal consumption in hundredths of a percent.
 #![tactic(auto)]
 
 mod payments;

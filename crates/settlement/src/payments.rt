@@ -8,12 +8,16 @@ use crate::readings::CompetitiveEnergies;
 use crate::reference::{at_reference, bill, limit};
 use curves::{Curve, MAX_KWH, Modified, Raised};
 
-/// A competitive unit, with its plant's loss and its allocated amount.
+/// What the payment of a competitive unit rests on.
 #[derive(Clone, Copy)]
 pub struct PaidUnit {
+    /// Its plant's loss, in hundredths of a percent; over 2,000 it is read as 2,000.
     pub loss: u32,
+    /// Its internal consumption, in hundredths of a percent; over 2,000 it is read as 2,000.
     pub internal: u32,
+    /// Its allocated amount, in kWh.
     pub allocated: u32,
+    /// The energies that were read of it.
     pub energies: CompetitiveEnergies,
 }
 
@@ -31,14 +35,14 @@ impl PaidUnit {
         self.energies.accepted as u64 + self.energies.lost as u64
     }
 
-    // That less what was made under a technical limit.
+    // Accepted and lost energy less what was made under a technical limit, not under 0.
     fn committed(&self) -> u64
         ensures { result ≡ committed self.now }
     {
         self.offered().saturating_sub(self.energies.limited as u64)
     }
 
-    // The kWh that are paid by the modified offer.
+    // The kWh, from kWh 1 up to this one, that are paid by the modified offer.
     fn first_part(&self) -> u32
         ensures { result ≡ first_part self.now }
     {
@@ -46,7 +50,7 @@ impl PaidUnit {
         wanted.min(self.billed() as u64) as u32
     }
 
-    // The kWh up to which the lesser of cost curve and modified offer is paid.
+    // The kWh up to this one, past the first part, are paid by the lesser of cost curve and modified offer.
     fn second_part(&self) -> u32
         ensures { result ≡ second_part self.now }
     {
@@ -68,21 +72,21 @@ struct Part {
 }
 
 impl Part {
-    // What they cost by a curve.
+    // What these kWh cost by a curve.
     fn cost<C: Curve>(self, curve: &C) -> u64
         ensures { result ≡ cost_between (C.prices curve.now) (read_energy self.after) (read_energy self.to) }
     {
         curve.cost(self.to).saturating_sub(curve.cost(self.after))
     }
 
-    // The lesser of what they cost by two curves.
+    // The lesser of what these kWh cost by two curves, compared as wholes.
     fn lesser_cost<C: Curve, D: Curve>(self, one: &C, other: &D) -> u64
         ensures { result ≡ lesser (C.Curve.prices one.now) (D.Curve.prices other.now) (read_energy self.after) (read_energy self.to) }
     {
         self.cost(one).min(self.cost(other))
     }
 
-    // What they cost, each at the curve's price of one kWh.
+    // What these kWh cost, each at the curve's price of kWh `kwh`.
     fn cost_at<C: Curve>(self, curve: &C, kwh: u32) -> u64
         ensures { result ≡ cost_between (λ _. C.prices curve.now (read_kwh kwh)) (read_energy self.after) (read_energy self.to) }
     {
@@ -91,7 +95,8 @@ impl Part {
     }
 }
 
-/// What a competitive unit is paid, by its offer and its cost curve.
+/// What a competitive unit is paid by its offer and its cost curve, in thousandths of a rial. `ceiling` is the hour's,
+/// in rial per MWh; over 10,000,000 it is read as 10,000,000.
 pub fn competitive_payment<O: Curve, C: Curve>(
     offer: &O,
     cost: &C,
@@ -130,13 +135,13 @@ pub fn competitive_payment<O: Curve, C: Curve>(
     paid_a + paid_b + paid_c
 }
 
-/// What a guaranteed unit is paid: its billed energy by its offer, and the transmission that it saves if it feeds the
-/// distribution grid.
+/// What a guaranteed unit is paid, in thousandths of a rial: its billed energy, in kWh, by its offer, and for each
+/// of these kWh the transmission `saving`, in rial per MWh, if it feeds the distribution grid: `feeds` is 1, else 0,
+/// and over 1 it is read as 1. A bill over 2,000,000 is read as 2,000,000.
 pub fn guaranteed_payment<O: Curve>(offer: &O, bill: u32, feeds: u32, saving: u32) -> u64
     ensures value { result ≡ guaranteed_payment bill (O.prices offer.now) feeds saving }
     ensures bound { result ≤ 8609934590000000 }
 {
-    // `feeds` is a number, since callers give any, and each has a meaning.
     let saved = bill.min(MAX_KWH) as u64 * feeds.min(1) as u64 * saving as u64;
     offer.cost(bill) + saved
 }

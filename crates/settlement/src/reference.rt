@@ -18,7 +18,7 @@ pub(crate) fn parts_kept(loss: u32) -> u64
     WHOLE_PARTS - loss.min(MAX_LOSS) as u64
 }
 
-// Energy at the reference point.
+// Energy carried to the reference point, its fraction dropped.
 pub(crate) fn at_reference(energy: u64, loss: u32) -> u64
     ensures value { result ≡ at_reference loss energy }
     ensures bound { result ≤ energy }
@@ -26,7 +26,8 @@ pub(crate) fn at_reference(energy: u64, loss: u32) -> u64
     (energy as u128 * parts_kept(loss) as u128 / WHOLE_PARTS as u128) as u64
 }
 
-/// A unit's limit: its gross energy less internal consumption, at the reference point.
+/// A unit's limit, in kWh: its gross energy less internal consumption, carried to the reference point, with one
+/// fraction dropped. `internal` and `loss` are in hundredths of a percent; over 2,000 they are read as 2,000.
 pub fn limit(gross: u32, internal: u32, loss: u32) -> u32
     ensures value { result ≡ net_of internal loss gross }
     ensures fraction { CarriedGross internal loss gross result }
@@ -35,7 +36,8 @@ pub fn limit(gross: u32, internal: u32, loss: u32) -> u32
     (gross as u64 * parts_kept(internal) * parts_kept(loss) / (WHOLE_PARTS * WHOLE_PARTS)) as u32
 }
 
-/// A unit's billed energy: its net energy at the reference point.
+/// A unit's billed energy, in kWh: its net energy carried to the reference point, the fraction dropped. `net` over
+/// 2,000,000 is read as 2,000,000, and `loss`, in hundredths of a percent, over 2,000 as 2,000.
 pub fn bill(net: u32, loss: u32) -> u32
     ensures value { result ≡ bill_of loss net }
     ensures fraction { Carried loss (min net 2000000) result }

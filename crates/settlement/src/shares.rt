@@ -4,7 +4,7 @@ ghost use Rattle.settlement.specs.Shares.{running_share, group_one_share, weight
 
 use crate::reference::{MAX_LOSS, WHOLE_PARTS};
 
-/// What falls to `part` of `total`; nothing where the total is 0.
+/// How much of `whole` falls to `part` of `total`, the fraction dropped; 0 where the total is 0.
 pub fn running_share(whole: u64, part: u64, total: u64) -> u128
     ensures { result ≡ running_share whole part total }
 {
@@ -14,7 +14,8 @@ pub fn running_share(whole: u64, part: u64, total: u64) -> u128
     whole as u128 * part as u128 / total as u128
 }
 
-/// Group 1's share of a plant's commitments, by the declared gross energy of both groups.
+/// Group 1's share of a plant's commitments, by the declared gross energy of both groups, all in kWh: the fraction is
+/// dropped, and where neither group has any it is the whole. Group 2 gets the rest.
 pub fn group_one_share(commitments: u32, gross1: u32, gross2: u32) -> u32
     ensures value { result ≡ group_one_share commitments gross1 gross2 }
     ensures bound { result ≤ commitments }
@@ -26,7 +27,8 @@ pub fn group_one_share(commitments: u32, gross1: u32, gross2: u32) -> u32
     running_share(commitments as u64, gross1 as u64, gross) as u32
 }
 
-/// A buyer's weight: its use with its loss added.
+/// A buyer's weight: its use, in kWh, with its loss added, the fraction dropped. `loss` is in hundredths of a percent;
+/// over 2,000 it is read as 2,000.
 pub fn weight(used: u32, loss: u32) -> u64
     ensures value { result ≡ weight_of loss used }
     ensures bound { result ≤ 5153960754 }

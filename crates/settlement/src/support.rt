@@ -6,11 +6,11 @@ ghost use Rattle.settlement.specs.Support.{marked, active_of, day_support, quoti
 use crate::readings::Control;
 use crate::reference::{at_reference, parts_kept};
 
-// The highest rate.
+// The highest rate, in rial per MWh.
 const MAX_RATE: u64 = 1_000_000_000;
 
 impl Control {
-    // The maintenance mark.
+    // Whether the maintenance mark is set.
     fn marked(&self) -> bool
         ensures { result ≡ marked self.now.day self.now.minute }
     {
@@ -21,7 +21,7 @@ impl Control {
         }
     }
 
-    /// The unit's active energy: as the operator reports it, with the deviations that count.
+    /// The unit's active energy, in kWh: as the operator reports it, with the deviations that count.
     pub fn active(&self) -> u64
         ensures value { result ≡ active_of self.now }
         ensures bound { result ≤ 25769803770 }
@@ -36,7 +36,8 @@ impl Control {
     }
 }
 
-/// Allocated energy that the plant's active energy, at the reference point, falls short of.
+/// Day support, in kWh: the plant's allocated energy less its active energy carried to the reference point, not under
+/// 0. `loss` is in hundredths of a percent; over 2,000 it is read as 2,000.
 pub fn day_support(allocated: u32, active: u64, loss: u32) -> u32
     ensures value { result ≡ day_support loss allocated active }
     ensures fraction { FallsShort loss allocated active result }
@@ -45,7 +46,7 @@ pub fn day_support(allocated: u32, active: u64, loss: u32) -> u32
     (allocated as u64).saturating_sub(at_reference(active, loss)) as u32
 }
 
-// Money by energy, where the energy is positive.
+// Money by energy, the fraction dropped; None where the energy is not positive.
 fn quotient(money: u64, energy: i64) -> Option<u64>
     ensures { result ≡ quotient money energy }
 {
@@ -53,8 +54,9 @@ fn quotient(money: u64, energy: i64) -> Option<u64>
     money.checked_div(energy)
 }
 
-/// A plant's rate: the greater of its payments by its energy over its allocation, and the hour's money by the hour's
-/// energy over its commitments; the ceiling where neither energy is positive.
+/// A plant's rate, in rial per MWh: the greater of `payments` / `over` and `hour_money` / `hour_over`, fractions
+/// dropped, at most 1,000,000,000. `over` is the plant's bills less its allocation, `hour_over` all bills less all
+/// commitments; only positive ones count, and where neither is, the rate is `ceiling`. Money below 0 is read as 0.
 pub fn rate(payments: u64, over: i64, hour_money: i64, hour_over: i64, ceiling: u32) -> u32
     ensures { result ≡ rate_of payments over hour_money hour_over ceiling }
 {
@@ -64,7 +66,9 @@ pub fn rate(payments: u64, over: i64, hour_money: i64, hour_over: i64, ceiling: 
         .map_or(ceiling, |quotient| quotient.min(MAX_RATE) as u32)
 }
 
-/// What a plant's support costs, in thousandths of a rial.
+/// What a plant's `run` and `day` support, in kWh, cost at its rate, with readiness for the run support, in thousandths
+/// of a rial. `cpf` is the readiness coefficient, in ten-thousandths, and `bar` the readiness base rate, in rial per
+/// MW. `loss` is in hundredths of a percent; over 2,000 it is read as 2,000.
 pub fn support_cost(run: u32, day: u32, rate: u32, cpf: u32, bar: u32, loss: u32) -> u128
     ensures { result ≡ support_cost loss run day rate cpf bar }
 {

@@ -11,7 +11,7 @@ paired (suc n) [] h = absurd (omega arith)
 paired (suc n) (w ∷ []) h = absurd (omega arith)
 paired (suc n) (w ∷ p ∷ more) h = ap (λ l. w ∷ p ∷ l) (paired n more (omega (arith, h)))
 
--- numbers that are each that of the word in its place
+-- a list in which each number is f of the word in its place is f of each word
 pub each_of : {X : Type 0} (f : X → ℕ) (xs : List X) (numbers : List ℕ) → length numbers ≡ length xs → ((k : ℕ) (d : X) → k < length xs → get_or numbers k 0 ≡ f (get_or xs k d)) → numbers ≡ map f xs
 each_of f [] [] long same = refl
 each_of f [] (n ∷ ns) long same = absurd (omega arith)

@@ -1,4 +1,4 @@
--- Faults that a caller can't see coming.
+-- The fault that may come at any line.
 use Rattle.split.specs.declared.faults.Fault.{Fault}
 use Rattle.split.specs.declared.faults.Fault.TheVariants.{Memory}
 

@@ -9,7 +9,7 @@ use Rattle.split.specs.declared.lines.Keyword.TheVariants.{Unit as UnitWord, Sha
 use Rattle.split.specs.declared.lines.Line.{Line}
 use Rattle.split.specs.declared.lines.Line.TheVariants.{Unit as UnitLine, Share}
 
--- what the first word of a line says
+-- what the first word of a line is read as
 abbrev pub KeywordRead : List ℕ → Result Keyword Fault → Type 0
 KeywordRead word (Ok UnitWord) = word ≡ codes "unit"
 KeywordRead word (Ok ShareWord) = word ≡ codes "share"
@@ -32,14 +32,14 @@ UnitRead numbers (UnitLine limit offer) =
     (steps : List Step) × (limit ∷ numbers_of steps ≡ numbers) × (stepped_offer_made steps ≡ Ok offer)
 UnitRead numbers (Share share) = ⊥
 
--- steps are turned down where a width has no price
+-- steps are refused where a width has no price; memory may run out
 abbrev pub StepsRefused : List ℕ → Fault → Type 0
 StepsRefused numbers WidthAlone = length numbers % 2 ≡ 1
 StepsRefused numbers (Memory e) = Unit {0}
 StepsRefused numbers other = ⊥
 
--- A unit is turned down where it has no limit, where a width has no price, or where its list of steps is refused. Memory
--- may run out at any.
+-- a unit is refused where it has no limit, where a width has no price, or where its list of steps is refused; memory
+-- may run out at any
 abbrev pub UnitRefused : List ℕ → Fault → Type 0
 UnitRefused numbers MissingNumber = numbers ≡ []
 UnitRefused numbers WidthAlone = (0 < length numbers) × (length numbers % 2 ≡ 0)

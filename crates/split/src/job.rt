@@ -13,13 +13,13 @@ use std::alloc::{AllocError, Global};
 use std::io;
 use std::io::Read;
 
-/// The most bytes of a job.
+// The most bytes of a job.
 const MAX_INPUT: u64 = 1 << 20;
 
 // A job as far as it was read, and the text that answers it.
 #[derive(Drop)]
 struct Job {
-    // Two rows for the units, since a split reads limits and offers as two slices.
+    // The units' limits and offers: two rows, as the split reads them.
     limits: Vec<u32>,
     offers: Vec<SteppedOffer>,
     shares_begun: bool,
@@ -36,7 +36,6 @@ impl Job {
         }
     }
 
-    // The heap beside the text: what is read of it takes memory.
     fn take_line(&mut self, heap: Global, text: &str) -> Result<(), Fault> {
         match read_line(heap, text)? {
             None => Ok(()),

@@ -10,10 +10,12 @@ use curves::{Step, SteppedOffer};
 use std::alloc::{AllocError, Global};
 use std::str::FromStr;
 
-/// What a line says.
+/// What a line that isn't empty says.
 #[derive(Clone, Copy)]
 pub enum Line {
+    /// A unit, with its limit in kWh and its offer.
     Unit { limit: u32, offer: SteppedOffer },
+    /// A share, in kWh.
     Share(u32),
 }
 
@@ -38,8 +40,7 @@ impl FromStr for Keyword {
     }
 }
 
-// The heap beside the text: what is read of it takes memory.
-/// Reads a line; an empty one says nothing.
+/// Reads a line; one without a word is None. The fault is the first that applies.
 pub(crate) fn read_line(heap: Global, text: &str) -> Result<Option<Line>, Fault> {
     let words = words_of(heap, text)?;
     let Some((first, rest)) = words.as_slice().split_first() else {

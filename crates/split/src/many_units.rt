@@ -1,5 +1,6 @@
 // A job of forty units, and what tools/split_by_kwh.py answers to it.
 
+/// Forty units, and then the shares 0, 934 and 1,894.
 pub const JOB: &str = "\
 unit 42 21 300 3 300
 unit 47 2 100
@@ -46,6 +47,7 @@ share 934
 share 1894
 ";
 
+/// The text that answers the job.
 pub const ANSWER: &str = "\
 share 0
 unit 1 0

@@ -6,13 +6,13 @@ use Rattle.curves.proofs.Costs.{at_most}
 use Rattle.split_cases.specs.declared.single.Single.{Single}
 use Rattle.split_cases.specs.Singles.{single_price, single_rises}
 
--- the kWh at places below n are those from 1 to n
+-- where the kWh at places 0 to n - 1 cost at most p, kWh 1 to n do
 cheap_from : (s : Single) (n p : ℕ) → n ≤ 2000000 → ((k : ℕ) → 0 ≤ k → k < n → single_price s (read_kwh (k + 1)) ≤ p) → (k : ℕ) → 1 ≤ k → k ≤ n → single_price s k ≤ p
 cheap_from s n p few cheap k from to =
     let at : read_kwh (k - 1 + 1) ≡ k = omega arith in
     omega (arith, cheap (k - 1) (omega arith) (omega arith), ap (single_price s) at)
 
--- the kWh before the first dearer one are counted, or all where none is dearer
+-- where the kWh before the first one dearer than p are counted, or all if there is none, the count is right
 pub counted : (s : Single) (e energy p n : ℕ) (r : Option ℕ) → energy ≡ read_energy e → n ≡ unwrap_or r energy
     → MatchOption r ((k : ℕ) → 0 ≤ k → k < energy → single_price s (read_kwh (k + 1)) ≤ p)
     (λ i. (0 ≤ i) × (i < energy) × (p < single_price s (read_kwh (i + 1))) × ((k : ℕ) → 0 ≤ k → k < i → single_price s (read_kwh (k + 1)) ≤ p))

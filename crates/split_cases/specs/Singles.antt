@@ -1,4 +1,4 @@
--- The price of each kWh of a stepped offer that is asked one kWh at a time.
+-- The price of each kWh of an offer whose stretches are single kWh: that of the stepped offer below.
 use Rattle.std.specs.Prelude.{ℕ, ◌≤◌}
 use Rattle.curves.specs.KindLaws.{stepped_offer_bounded, stepped_offer_rises}
 use Rattle.curves.specs.Kinds.{stepped_offer_price}

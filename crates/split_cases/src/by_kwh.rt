@@ -4,7 +4,7 @@ use crate::outcomes::Outcome;
 use std::alloc::{AllocError, Global};
 use std::iter::{repeat, repeat_n};
 
-// A kWh within its unit's limit; the order is that in which they are taken.
+// A kWh within its unit's limit; such kWh are ordered as they are taken.
 #[derive(PartialEq, Eq, PartialOrd, Ord, Clone, Copy)]
 struct Kwh {
     price: u32,
@@ -12,9 +12,8 @@ struct Kwh {
     place: usize,
 }
 
-// The heap beside the case: what is made of it takes memory.
 impl Outcome {
-    /// The outcome of taking one kWh after the other, the cheapest first.
+    /// The outcome of taking one kWh after the other: the cheapest first, then by unit and by place within the unit.
     pub(crate) fn by_kwh(heap: Global, case: &Case) -> Result<Outcome, AllocError> {
         let mut left = all_kwh(heap, case.units.as_slice())?;
         left.sort()?;

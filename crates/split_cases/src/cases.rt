@@ -3,21 +3,24 @@ use comparing::Random;
 use curves::Step;
 use std::alloc::{AllocError, Global};
 
-/// A unit; the price of its last step goes on without end.
+/// A unit of a group.
 #[derive(Drop)]
 pub struct PlainUnit {
+    /// Its limit, in kWh.
     pub limit: u32,
+    /// Its offer's steps; the price of the last one goes on without end.
     pub steps: Vec<Step>,
 }
 
 /// A group and a share to split over it.
 #[derive(Drop)]
 pub struct Case {
+    /// The group's units, in order.
     pub units: Vec<PlainUnit>,
+    /// The share, in kWh.
     pub share: u32,
 }
 
-// The heap beside what is drawn from: `Random` allocates nothing.
 impl Case {
     /// A group of 1 to 12 units, with 1 to `most_steps` steps each.
     pub(crate) fn make(
@@ -25,7 +28,7 @@ impl Case {
         random: &mut Random,
         most_steps: u32,
     ) -> Result<Case, AllocError> {
-        // The highest price of four steps is 10 times this.
+        // With four steps, no price is over 8 times this.
         let price_unit = if random.below(4) == 0 { 1_000_000 } else { 100 };
         let count = random.below(12) + 1;
         let units: Vec<PlainUnit> = (0..count)
@@ -45,7 +48,7 @@ impl Case {
     }
 }
 
-// From 0 to 60, and often 0. `often_zero` is 0 half of the time, and a list to choose from draws one number more.
+// From 0 to 60, and more often 0 than any other.
 fn any_limit(random: &mut Random) -> u32 {
     if random.below(6) == 0 {
         0
@@ -54,8 +57,7 @@ fn any_limit(random: &mut Random) -> u32 {
     }
 }
 
-// Steps of few prices that never fall. Those of `hour_cases` come from another source in other sizes: one for both would
-// need a crate of its own, with `curves` below it.
+// Steps of few prices, which never fall.
 fn any_steps(
     heap: Global,
     random: &mut Random,

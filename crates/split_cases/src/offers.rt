@@ -1,10 +1,11 @@
-// Offers made from plain lists of steps.
+// Offers made from lists of steps.
 use crate::cases::Case;
 use curves::{CurveRefusal, Offer, Step, SteppedOffer, Tariff};
 use std::alloc::Global;
 
-/// An offer that a plain list of steps makes.
+/// An offer that a list of steps makes.
 pub trait FromSteps: Offer + Drop {
+    /// The offer of these steps, or the refusal of making it.
     fn from_steps(steps: &[Step]) -> Result<Self, CurveRefusal>;
 }
 
@@ -21,7 +22,6 @@ impl FromSteps for Tariff {
     }
 }
 
-// The heap beside the case: what is made of it takes memory.
 /// The offer of each unit.
 pub(crate) fn offers_of<O: FromSteps>(heap: Global, case: &Case) -> anyhow::Result<Vec<O>> {
     case.units

@@ -4,15 +4,17 @@ use allocation::{split, total_cost};
 use curves::Offer;
 use std::alloc::{AllocError, Global};
 
-/// The amount of each unit, their cost and the kWh that are not covered.
+/// What a share's split over a group comes to.
 #[derive(PartialEq, Drop)]
 pub struct Outcome {
+    /// The kWh of each unit.
     pub amounts: Vec<u32>,
+    /// What they cost, in thousandths of a rial.
     pub cost: u64,
+    /// The kWh of the share that stay uncovered.
     pub uncovered: u32,
 }
 
-// The heap beside the case: what is made of it takes memory.
 impl Outcome {
     /// The outcome of the split over these offers.
     pub(crate) fn of_offers<O: Offer>(
@@ -20,7 +22,6 @@ impl Outcome {
         case: &Case,
         offers: &[O],
     ) -> Result<Outcome, AllocError> {
-        // The split takes the offers, the limits and the amounts each as a slice.
         let limits = case.limits(heap)?;
         // No amount is this high, so one that is not written shows.
         let mut amounts = vec![in heap; u32::MAX; limits.len()]?;

@@ -4,9 +4,10 @@ ghost use Rattle.split_cases.specs.Singles.{single_price, single_bounded, single
 use crate::offers::FromSteps;
 use curves::{Curve, CurveRefusal, MAX_KWH, Offer, Step, SteppedOffer};
 
-/// The prices of the offer below, one kWh at a time.
+/// An offer with the prices of the offer below, each kWh being a stretch.
 #[derive(Clone, Copy)]
 pub struct Single {
+    /// The offer below.
     pub below: SteppedOffer,
 }
 
@@ -27,7 +28,7 @@ impl Curve for Single {
 impl Offer for Single {
     ghost rises = { single_rises };
 
-    // Counts each kWh, and not each stretch. The parameters are those of the trait.
+    // Counts kWh by kWh.
     fn count_at_most(&self, energy: u32, price: u32) -> u32 {
         let energy = energy.min(MAX_KWH);
         (0..energy)
