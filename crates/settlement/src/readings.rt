@@ -17,7 +17,7 @@ pub struct CompetitiveEnergies {
     pub asked: u32,
 }
 
-/// What the control centre reports of a unit: its active energy and deviations, in kWh, and its maintenance.
+/// What the operator reports of a unit: its active energy and deviations, in kWh, and its maintenance.
 #[derive(Clone, Copy, Default)]
 pub struct Control {
     /// Active energy as the operator reports it.
@@ -32,7 +32,7 @@ pub struct Control {
     pub type6: u32,
     /// Its deviation of type 8.
     pub type8: u32,
-    /// The day of the maintenance, 1 or 2, and 0 if there is none; a number over 2 is read as 0.
+    /// The day of the maintenance, from 1; 0 if there is none. The mark is set on days 1 and 2 alone.
     pub day: u32,
     /// The exit minute of day 1. On day 2 the mark is set if it is over 780.
     pub minute: u32,
