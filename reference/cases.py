@@ -594,58 +594,45 @@ def count_units(counts, case, calls, figures):
             counts[f"β {added.beta}, with a payment"] += of.payment > 0
 
 
-def count_payment(counts, case, calls, of, unit, reading, sums):
+def count_payment(counts, case, of, row):
     """Counts the branches of what a competitive unit with a price row is paid."""
-    added, row = hour.units_of(calls, COMPETITIVE)[unit], case["rows1"][unit - 1]
-    loss = hour.numbered(calls, AddPlant)[added.plant].loss
-    com = hour.carried(reading.accepted + reading.lost - reading.limited, loss)
-    a = min(max(com, of.allocated), of.bill)
-    b1 = min(hour.carried(reading.accepted + reading.lost, loss), of.bill)
-    b2 = reading.alpha * min(hour.limit_of(reading.executed, added.rho, loss), of.bill)
-    b = max(b1, b2)
-    ceiling = case["header"].ceiling
-    part_a, _, _ = hour.competitive_parts(reading, of.bill, of.allocated, added.rho, loss, ceiling, row, sums)
-    counts["a is " + ("the bill" if a == of.bill else "Co" if of.allocated > com else "r(Com)")] += 1
-    counts[f"α {reading.alpha}"] += 1
-    counts["b2 > b1" if b2 > b1 else "b2 <= b1"] += 1
+    parts, a, b = of.parts, of.parts.a, of.parts.b
+    com_or_co = "Co" if of.allocated > parts.carried_com else "r(Com)"
+    counts["a is " + ("the bill" if a == of.bill else com_or_co)] += 1
+    counts[f"α {of.reading.alpha}"] += 1
+    counts["b2 > b1" if parts.b2 > parts.b1 else "b2 <= b1"] += 1
     counts["b > a" if b > a else "b <= a"] += 1
     if b > a:
-        by_cost, by_offer = (sums.cost(curve, a + 1, b) for curve in (row.cost, hour.Modified(of.allocated, row.offer)))
-        counts["B by " + ("the cost curve" if by_cost < by_offer else "the offer" if by_offer < by_cost else "both")] += 1
-    counts["A = 0, a = 0" if a == 0 else "A = 0, a > 0" if part_a == 0 else "A > 0"] += 1
+        by_cost, by_offer = parts.cost_of_b.cost, parts.offer_of_b.cost
+        by = "the cost curve" if by_cost < by_offer else "the offer" if by_offer < by_cost else "both"
+        counts[f"B by {by}"] += 1
+    counts["A > 0" if not parts.raised else "A = 0, a > 0" if a else "A = 0, a = 0"] += 1
     if max(a, b) < of.bill:
-        counts["C > 0 kWh by the raised cost" if part_a == 0 else "C > 0 kWh by the offer at Com"] += 1
+        counts["C > 0 kWh by the raised cost" if parts.raised else "C > 0 kWh by the offer at Com"] += 1
         raised = max(row.cost.at(kwh) * 12 // 10 for kwh in (max(a, b) + 1, of.bill))
-        counts["C reaches the ceiling"] += part_a == 0 and raised > ceiling
+        counts["C reaches the ceiling"] += parts.raised and raised > case["header"].ceiling
 
 
-def count_plants(counts, figures, money):
-    over_sold = figures.billed - figures.sold
+def count_plants(counts, figures):
+    hour_rate = -1 if figures.sums.quotient is None else figures.sums.quotient
     for plant, of in figures.plants.items():
         own = [unit for unit in figures.units.values() if unit.plant == plant]
-        over_allocated = sum(unit.bill for unit in own) - of.allocated
-        own_rate = sum(unit.payment for unit in own) // over_allocated if over_allocated > 0 else -1
-        hour_rate = max(0, money) // over_sold if over_sold > 0 else -1
+        own_rate = -1 if of.own_quotient is None else of.own_quotient
         by = "the ceiling" if own_rate == hour_rate == -1 else "its quotient" if own_rate > hour_rate else "the hour's quotient"
         counts[f"rate by {by}" + (" alone" if by != "the ceiling" and -1 in (own_rate, hour_rate) else "")] += 1
         counts["rate capped"] += max(own_rate, hour_rate) > 1_000_000_000
-        counts["rate with negative money read as 0"] += hour_rate == 0 and money < 0
+        counts["rate with negative money read as 0"] += hour_rate == 0 and figures.sums.money < 0
         counts["plant with run support"] += of.run > 0
         counts["plant with day support"] += of.support > of.run
         counts["plant without units"] += not own
         counts["plant with shares of both groups"] += min(of.shares) > 0
 
 
-def count_readings(counts, calls, read):
-    """Counts the branches of readings. Returns the adjustments of the hour, in thousandths of a rial."""
-    adjustments = 0
+def count_readings(counts, read):
     for (kind, _), reading in read.items():
         if kind is not ReadBuyer:
             mark = hour.maintenance_mark(reading.day, reading.minute)
             counts[f"mark {mark} with energy of type 6"] += reading.type6 > 0
-        if kind is ReadCompetitive:
-            adjustments += 1_000 * (reading.opportunity - reading.planning - reading.noncooperation)
-    return adjustments
 
 
 def count_branches(counts, case, sums=hour.KWH_BY_KWH):
@@ -657,10 +644,10 @@ def count_branches(counts, case, sums=hour.KWH_BY_KWH):
     count_units(counts, case, calls, figures)
     for (group, unit), of in figures.units.items():
         if group == COMPETITIVE and unit <= len(case["rows1"]):
-            count_payment(counts, case, calls, of, unit, read[ReadCompetitive, unit], sums)
-    money = sum(of.payment for of in figures.units.values()) + count_readings(counts, calls, read)
-    counts["hour with negative money"] += money < 0
-    count_plants(counts, figures, money)
+            count_payment(counts, case, of, case["rows1"][unit - 1])
+    count_readings(counts, read)
+    counts["hour with negative money"] += figures.sums.money < 0
+    count_plants(counts, figures)
     for of in figures.buyers.values():
         counts["net purchase " + ("< 0" if of.net < 0 else "= 0" if of.net == 0 else "> 0")] += 1
     counts["hour with buyers, all weights 0"] += bool(figures.buyers) and not any(of.weight for of in figures.buyers.values())

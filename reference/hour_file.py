@@ -7,8 +7,13 @@ engine.
 The whole file is cut into pieces first, each of them one record or none. Where the pieces stop being in order is found
 over all of them at once, and the calls of the records before that are judged as one list.
 
-Run as a program it reads an hour file on standard input and prints what `list_file` answers. It sums kWh by kWh, or with
-the argument --stretches by stretches of equal price.
+    python3 reference/hour_file.py [--stretches] < FILE
+    python3 reference/hour_file.py [--stretches] --explain FILE
+
+The first prints what `list_file` answers. It sums kWh by kWh, or with --stretches by stretches of equal price. The
+second prints each record and how each figure comes about, or where and why the first fault is; explain.py has its
+text. It always sums by stretches, since an hour of full energies takes minutes kWh by kWh. So --stretches changes
+nothing there.
 """
 import os
 import re
@@ -19,8 +24,9 @@ sys.dont_write_bytecode = True
 sys.path.insert(0, os.path.dirname(os.path.abspath(__file__)))
 
 import hour
-from hour import (KWH_BY_KWH, AddBuyer, AddCompetitive, AddGuaranteed, AddPlant, Commit, Correct, PriceRow, PutAside,
-                  ReadBuyer, ReadCompetitive, ReadGuaranteed, Refused, SteppedCost, SteppedOffer, TakeBack, Tariff)
+from hour import (KWH_BY_KWH, AddBuyer, AddCompetitive, AddGuaranteed, AddPlant, Breach, Commit, Correct, PriceRow,
+                  PutAside, ReadBuyer, ReadCompetitive, ReadGuaranteed, Refused, SteppedCost, SteppedOffer, TakeBack,
+                  Tariff)
 from stretches import BY_STRETCHES
 
 WORD = 4
@@ -49,9 +55,13 @@ class Record:
 
 @dataclass(frozen=True)
 class Fault:
+    """`at` is the piece that it is at, from 0, and `breaches` are the values that it found there. 12 and 14 are at no
+    piece."""
     layer: str
     number: int
     place: int
+    at: int | None = None
+    breaches: tuple = ()
 
     def line(self):
         return f"R {self.layer} {self.number} {self.place}\n"
@@ -98,16 +108,29 @@ def pieces(words):
     return [(WORD * start, words[start:end]) for start, end in zip(starts, starts[1:] + [len(words)])]
 
 
-def right_count(kind, values):
-    if kind == COMPETITIVE:
-        return len(values) >= 4 and len(values) % 2 == 0 and 4 + 2 * values[3] <= len(values)
-    return len(values) == COUNTS.get(kind)
+def unit_flaws(values):
+    """Why a competitive unit can't have these values, a tuple, or None."""
+    count = len(values)
+    if count < 4:
+        return (Breach("count", count, 4, MOST_VALUE),)
+    if count % 2 != 0:
+        return (Breach("odd count", count, 0, 0),)
+    return hour.outside("count", count, 4 + 2 * values[3], MOST_VALUE)
+
+
+def flaws(piece):
+    """Why a piece is no record, a tuple of breaches, or None where it is one."""
+    kind, count, there = kind_of(piece[0]), number_of(piece[0]), len(piece) - 1
+    if not HEADER <= kind <= SETTLE:
+        return (Breach("kind", kind, HEADER, SETTLE),)
+    if there != count:
+        return (Breach("values", there, count, count),)
+    return unit_flaws(piece[1:]) if kind == COMPETITIVE else hour.outside("count", count, COUNTS[kind], COUNTS[kind])
 
 
 def record_of(piece):
     """The record that a piece is, or None."""
-    kind, count, values = kind_of(piece[0]), number_of(piece[0]), tuple(piece[1:])
-    return Record(kind, values) if len(values) == count and right_count(kind, values) else None
+    return Record(kind_of(piece[0]), tuple(piece[1:])) if flaws(piece) is None else None
 
 
 # Order --------------------------------------------------------------------------------------------------------------
@@ -122,11 +145,13 @@ def letter(record):
     return {HEADER: "h", CLOSE: "c", SETTLE: "s"}.get(record.kind, "r" if record.kind in READINGS else "e")
 
 
-def form_fault(letters, places, length):
-    """How many pieces come before the first fault of form, and that fault or None."""
+def form_fault(letters, found, length):
+    """How many of the pieces come before the first fault of form, and that fault or None."""
     good = IN_ORDER.match(letters).end()
     if good < len(letters):
-        return good, Fault("F", 15 if letters[good] == "-" else 16, places[good])
+        place, piece = found[good]
+        broken = flaws(piece)
+        return good, Fault("F", 16 if broken is None else 15, place, good, broken or ())
     return good, None if letters.endswith("s") else Fault("F", 12, length)
 
 
@@ -140,7 +165,8 @@ def step_lists(values):
 
 def call_of(record):
     if record.kind == COMPETITIVE:
-        return AddCompetitive(*record.values[:3], hour.rows_refusal(*step_lists(record.values)))
+        outcome = hour.refusal(hour.rows_of_lists(*step_lists(record.values)))
+        return AddCompetitive(*record.values[:3], *([outcome.number, outcome.breaches] if outcome else []))
     return (ENTRIES | READINGS)[record.kind](*record.values)
 
 
@@ -157,29 +183,27 @@ def reading_calls(records):
 
 
 def answers(records):
-    """For each record of a list in order the number that turns its call down, or None.
+    """For each record of a list in order what its call is told, or None where it can't be turned down.
 
     Past the first refusal they mean nothing.
     """
-    if hour.header_refusal(header_of(records)) is not None:
-        return [hour.header_refusal(header_of(records))]
+    refused = hour.refusal(hour.rows_of_header(header_of(records))) if records else None
+    if refused:
+        return [refused] + [None] * (len(records) - 1)
     entry_answers, accepted = hour.judge_entries(entry_calls(records))
     reading_answers, _ = hour.judge_readings(reading_calls(records), accepted)
     judged = {"e": iter(entry_answers), "r": iter(reading_answers)}
-    given = [next(judged.get(letter(record), iter([None]))) for record in records]
-    return [answer.number if isinstance(answer, Refused) else None for answer in given]
+    return [next(judged.get(letter(record), iter([None]))) for record in records]
 
 
 def layer_of(record, number):
     return "O" if record.kind == COMPETITIVE and number in (8, 9) else "B"
 
 
-def call_fault(records, places):
+def call_fault(records, told, places):
     """The fault of the first call that is turned down, or None."""
-    if not records:
-        return None
-    faults = [Fault(layer_of(record, number), number, place)
-              for record, place, number in zip(records, places, answers(records)) if number is not None]
+    faults = [Fault(layer_of(record, answer.number), answer.number, place, at, answer.breaches)
+              for at, (record, place, answer) in enumerate(zip(records, places, told)) if isinstance(answer, Refused)]
     return faults[0] if faults else None
 
 
@@ -195,28 +219,79 @@ def hour_of(records):
                 readings=reading_calls(records), rows1=rows, rows2=tariffs)
 
 
-def settled_listing(records, sums):
-    """The listing of an hour none of whose calls is turned down."""
-    return hour.listing(hour.settle_hour(**hour_of(records), sums=sums)[1])
+def settled(records, sums):
+    """The figures of an hour none of whose calls is turned down."""
+    return hour.settle_hour(**hour_of(records), sums=sums)[1]
+
+
+# Files --------------------------------------------------------------------------------------------------------------
+
+@dataclass(frozen=True)
+class HourFile:
+    """What a file is read as: its pieces as (place, words), of each piece the record that it is or None, what the calls
+    of the records before the first fault of form are told, and the first fault or None."""
+    length: int
+    pieces: list
+    found: list
+    told: list
+    fault: Fault | None
+
+    @property
+    def records(self):
+        """Those before the first fault of form."""
+        return self.found[:len(self.told)]
+
+
+def length_flaws(length):
+    """Why a file can't have this length, a tuple, or None."""
+    return (hour.outside("bytes past a word", length % WORD, 0, 0)
+            or hour.outside("length", length, 0, MOST_BYTES))
+
+
+def read_file(data):
+    broken = length_flaws(len(data))
+    if broken:
+        return HourFile(len(data), [], [], [], Fault("F", 14, 0, None, broken))
+    cut = pieces(words_of(data))
+    found = [record_of(piece) for _, piece in cut]
+    good, of_form = form_fault("".join(map(letter, found)), cut, len(data))
+    told = answers(found[:good])
+    fault = call_fault(found[:good], told, [place for place, _ in cut]) or of_form
+    return HourFile(len(data), cut, found, told, fault)
 
 
 def list_file(data, sums=KWH_BY_KWH):
     """The listing of an hour file, or the line of its first fault."""
-    if len(data) % WORD != 0 or len(data) > MOST_BYTES:
-        return Fault("F", 14, 0).line()
-    found = pieces(words_of(data))
-    places = [place for place, _ in found]
-    records = [record_of(piece) for _, piece in found]
-    good, of_form = form_fault("".join(map(letter, records)), places, len(data))
-    fault = call_fault(records[:good], places) or of_form
-    return fault.line() if fault else settled_listing(records, sums)
+    read = read_file(data)
+    return read.fault.line() if read.fault else hour.listing(settled(read.records, sums))
+
+
+# The program --------------------------------------------------------------------------------------------------------
+
+def explain(name):
+    """Prints the explanation of the file of this name."""
+    from explain import explain_file  # explain.py reads files by this module.
+    try:
+        with open(name, "rb") as file:
+            data = file.read()
+    except OSError as error:
+        sys.exit(f"hour_file.py: {name}: {error.strerror}")
+    sys.stdout.reconfigure(encoding="utf-8")
+    print(explain_file(data), end="")
 
 
 def main():
-    if sys.argv[1:] not in ([], ["--stretches"]):
-        sys.exit("usage: hour_file.py [--stretches]")
-    sums = BY_STRETCHES if sys.argv[1:] else KWH_BY_KWH
-    print(list_file(sys.stdin.buffer.read(), sums), end="")
+    words = sys.argv[1:]
+    by_stretches = "--stretches" in words
+    if by_stretches:
+        words.remove("--stretches")
+    match words:
+        case []:
+            print(list_file(sys.stdin.buffer.read(), BY_STRETCHES if by_stretches else KWH_BY_KWH), end="")
+        case ["--explain", name]:
+            explain(name)
+        case _:
+            sys.exit("usage: hour_file.py [--stretches] [--explain FILE]")
 
 
 if __name__ == "__main__":

@@ -5,7 +5,10 @@ hour.py; what is said here is where they may change, and how whole stretches are
 
 `BY_STRETCHES` stands where `hour.KWH_BY_KWH` stands, and must give the same.
 """
-from hour import MOST_KWH, Modified, Raised, Stepped, Sums, Tariff
+from collections import Counter
+from itertools import groupby
+
+from hour import MOST_KWH, Modified, Raised, Stepped, Sums, Tariff, split_of
 
 
 def changes(curve):
@@ -32,24 +35,24 @@ def stretches(curve, first, last):
     return [(end - before, curve.at(end)) for before, end in zip([first - 1] + ends, ends)]
 
 
-def cost(curve, first, last):
-    """What kWh `first` to `last` cost."""
-    return sum(kwh * price for kwh, price in stretches(curve, first, last))
+def runs(curve, first, last):
+    """The same with neighbours of one price put together."""
+    by_price = groupby(stretches(curve, first, last), key=lambda stretch: stretch[1])
+    return tuple((sum(kwh for kwh, _ in same), price) for price, same in by_price)
 
 
 def split(share, limits, offers):
-    """The amounts of a group's units by number, and what stays uncovered. Takes stretch after stretch in merit order.
+    """Splits a share over a group's units, stretch after stretch in merit order.
 
     An offer's price never falls, so a unit's own stretches are ordered by their price alone.
     """
     ordered = sorted((price, unit, kwh) for unit, limit in limits.items()
-                     for kwh, price in stretches(offers[unit], 1, limit))
-    amounts, left = {unit: 0 for unit in limits}, share
-    for _, unit, kwh in ordered:
-        taken = min(kwh, left)
-        amounts[unit] += taken
-        left -= taken
-    return amounts, left
+                     for kwh, price in runs(offers[unit], 1, limit))
+    taken, left = Counter(), share
+    for price, unit, kwh in ordered:
+        taken[unit, price] = min(kwh, left)
+        left -= taken[unit, price]
+    return split_of(share, limits, +taken)
 
 
-BY_STRETCHES = Sums(cost, split)
+BY_STRETCHES = Sums(runs, split)

@@ -11,9 +11,9 @@ sys.path.insert(0, os.path.dirname(os.path.abspath(__file__)))
 
 import hour
 import told_apart
-from hour import (DONE, OUT_OF_TURN, Accepted, AddBuyer, AddCompetitive, AddGuaranteed, AddPlant, Close, Commit, Correct,
-                  Header, PriceRow, PutAside, ReadBuyer, ReadCompetitive, ReadGuaranteed, Refused, Settle, SteppedCost,
-                  SteppedOffer, TakeBack, Tariff, make_calls, settle_hour)
+from hour import (DONE, KWH_BY_KWH, OUT_OF_TURN, Accepted, AddBuyer, AddCompetitive, AddGuaranteed, AddPlant, Close,
+                  Commit, Correct, Header, PriceRow, PutAside, ReadBuyer, ReadCompetitive, ReadGuaranteed, Refused,
+                  Settle, SteppedCost, SteppedOffer, TakeBack, Tariff, make_calls, settle_hour)
 
 HEADER = Header(1_000, 10_000, 200, 0, 0)
 OFFER = SteppedOffer([(100, 300), (100, 500)])
@@ -40,32 +40,38 @@ class WorkedExamples(unittest.TestCase):
     def test_split(self):
         offers = {1: SteppedOffer([(50, 300), (1, 500)]), 2: SteppedOffer([(80, 400), (1, 500)])}
         limits = {1: 100, 2: 100}
-        amounts, uncovered = hour.split(150, limits, offers)
-        self.assertEqual((amounts, uncovered), ({1: 70, 2: 80}, 0))
-        self.assertEqual(sum(offers[unit].cost(1, amount) for unit, amount in amounts.items()), 57_000)
-        self.assertEqual(hour.split(200, limits, offers), ({1: 100, 2: 100}, 0))
-        self.assertEqual(hour.split(201, limits, offers), ({1: 100, 2: 100}, 1))
+        found = hour.split(150, limits, offers)
+        taken = {1: ((50, 300), (20, 500)), 2: ((80, 400),)}
+        self.assertEqual(found, hour.Split({1: 70, 2: 80}, taken, 500, 0))
+        costs = [KWH_BY_KWH.priced(offers[unit], 1, amount).cost for unit, amount in found.amounts.items()]
+        self.assertEqual(sum(costs), 57_000)
+        taken = {1: ((50, 300), (50, 500)), 2: ((80, 400), (20, 500))}
+        self.assertEqual(hour.split(200, limits, offers), hour.Split({1: 100, 2: 100}, taken, 500, 0))
+        self.assertEqual(hour.split(201, limits, offers), hour.Split({1: 100, 2: 100}, taken, 500, 1))
+        self.assertEqual(hour.split(0, limits, offers), hour.Split({1: 0, 2: 0}, {1: (), 2: ()}, None, 0))
 
     def test_split_of_equal_tariffs(self):
-        self.assertEqual(hour.split(6, {1: 5, 2: 7}, {1: Tariff(9), 2: Tariff(9)}), ({1: 5, 2: 1}, 0))
+        self.assertEqual(hour.split(6, {1: 5, 2: 7}, {1: Tariff(9), 2: Tariff(9)}),
+                         hour.Split({1: 5, 2: 1}, {1: ((5, 9),), 2: ((1, 9),)}, 9, 0))
 
     def test_payments(self):
         reading = ReadCompetitive(1, net=130, accepted=110, limited=20, p_act=30)
         row = PriceRow(OFFER, COST)
-        self.assertEqual(hour.competitive_parts(reading, 130, 40, 0, 0, 1_000, row), (15_000, 7_000, 6_000))
-        self.assertEqual(hour.competitive_parts(reading, 130, 90, 0, 0, 1_000, row), (0, 7_000, 8_400))
+        self.assertEqual(hour.competitive_parts(reading, 130, 40, 0, 0, 1_000, row).costs, (15_000, 7_000, 6_000))
+        self.assertEqual(hour.competitive_parts(reading, 130, 90, 0, 0, 1_000, row).costs, (0, 7_000, 8_400))
 
     def test_maintenance_mark(self):
         self.assertEqual([hour.maintenance_mark(day, minute) for day, minute in
                           ((0, 781), (1, 0), (2, 780), (2, 781), (3, 1_439))], [0, 1, 0, 1, 0])
 
     def test_day_support(self):
-        self.assertEqual(hour.day_support(150, 100, 200), 52)
-        self.assertEqual(hour.day_support(10, 100, 200), 0)
+        self.assertEqual(hour.day_support(150, hour.carried(100, 200)), 52)
+        self.assertEqual(hour.day_support(10, hour.carried(100, 200)), 0)
 
     def test_buyers(self):
-        self.assertEqual(hour.buyer_shares(100, [1, 1, 1]), ([33, 33, 34], 0))
-        self.assertEqual(hour.buyer_shares(100, [0, 0]), ([0, 0], 100))
+        self.assertEqual(hour.buyer_shares(100, [1, 1, 1]),
+                         hour.BuyerShares([0, 1, 2, 3], [0, 33, 66, 100], [33, 33, 34], 0))
+        self.assertEqual(hour.buyer_shares(100, [0, 0]), hour.BuyerShares([0, 0, 0], [0, 0, 0], [0, 0], 100))
         _, figures = settle_hour(
             HEADER, [AddPlant(0), AddCompetitive(1, 100, 0), AddBuyer(0), AddBuyer(0), AddBuyer(0), Commit(1, 3, 40)],
             [OFFER], [], [ReadCompetitive(1, net=100)] + [ReadBuyer(buyer, 1) for buyer in (1, 2, 3)], [], [])
@@ -73,22 +79,25 @@ class WorkedExamples(unittest.TestCase):
 
 
 class Rates(unittest.TestCase):
-    def test_quotients_left_out(self):
-        self.assertEqual(hour.support_rate(700, 2, 0, 0, 55), 350)
-        self.assertEqual(hour.support_rate(700, 0, 900, 2, 55), 450)
-        self.assertEqual(hour.support_rate(700, -1, 900, 0, 55), 55)
-        self.assertEqual(hour.support_rate(0, 0, -900, 2, 55), 0)
-        self.assertEqual(hour.support_rate(10 ** 13, 1, 0, 1, 55), 10 ** 9)
+    def rate(self, payments, over_allocated, money, over_sold):
+        return hour.support_rate(hour.quotient(payments, over_allocated), hour.quotient(money, over_sold), 55)
 
+    def test_quotients_left_out(self):
+        self.assertEqual(self.rate(700, 2, 0, 0), 350)
+        self.assertEqual(self.rate(700, 0, 900, 2), 450)
+        self.assertEqual(self.rate(700, -1, 900, 0), 55)
+        self.assertEqual(self.rate(0, 0, -900, 2), 0)
+        self.assertEqual(self.rate(10 ** 13, 1, 0, 1), 10 ** 9)
 
     def test_cost_weight_and_active_energy(self):
-        self.assertEqual(hour.support_cost(10, 5, 7, 10_000, 200, 2_000), 15 * 7 + 2_500)
-        self.assertEqual(hour.support_cost(1, 0, 0, 1, 8_001, 2_000), 1)
+        self.assertEqual(hour.support_cost(10, 5, 7, 10_000, 200, 2_000), hour.SupportCost(15 * 7, 2_500))
+        self.assertEqual(hour.support_cost(10, 5, 7, 10_000, 200, 2_000).total, 15 * 7 + 2_500)
+        self.assertEqual(hour.support_cost(1, 0, 0, 1, 8_001, 2_000).total, 1)
         self.assertEqual(hour.weight_of(199, 50), 199)
         self.assertEqual(hour.weight_of(200, 50), 201)
         reading = ReadGuaranteed(1, 9, p_act=100_000, type2=20_000, type3=3_000, type5=500, type6=60, type8=8, day=2)
-        self.assertEqual(hour.active_energy(replace(reading, minute=780)), 123_568)
-        self.assertEqual(hour.active_energy(replace(reading, minute=781)), 123_508)
+        self.assertEqual(hour.active_energy(replace(reading, minute=780)).total, 123_568)
+        self.assertEqual(hour.active_energy(replace(reading, minute=781)).total, 123_508)
 
 
 class Curves(unittest.TestCase):
@@ -228,27 +237,36 @@ def closed(entries, offers1=(), offers2=()):
     return hour.close_hour(hour.judge_entries(entries)[1], offers1, offers2)
 
 
+def amounts(found):
+    return {key: found.amount(*key) for key in found.units}
+
+
+def limits(found):
+    return {key: of.limit for key, of in found.units.items()}
+
+
 class Closing(unittest.TestCase):
     def test_corrections_and_units_aside(self):
         plant = [AddPlant(0), AddBuyer(0), AddCompetitive(1, 40, 0), AddCompetitive(1, 10, 0), Commit(1, 1, 50)]
         rows = [Tariff(5), Tariff(4)]
-        self.assertEqual(closed(plant, rows).amounts, {(1, 1): 40, (1, 2): 10})
-        self.assertEqual(closed(plant + [Correct(1, 1, 45)], rows).amounts, {(1, 1): 40, (1, 2): 10})
-        self.assertEqual(closed(plant + [Correct(1, 2, 45), Correct(1, 2, 30)], rows).amounts, {(1, 1): 20, (1, 2): 30})
+        self.assertEqual(amounts(closed(plant, rows)), {(1, 1): 40, (1, 2): 10})
+        self.assertEqual(amounts(closed(plant + [Correct(1, 1, 45)], rows)), {(1, 1): 40, (1, 2): 10})
+        twice = plant + [Correct(1, 2, 45), Correct(1, 2, 30)]
+        self.assertEqual(amounts(closed(twice, rows)), {(1, 1): 20, (1, 2): 30})
         aside = plant + [PutAside(1, 2), PutAside(1, 2), Correct(1, 2, 30)]
-        self.assertEqual(closed(aside, rows).amounts, {(1, 1): 40, (1, 2): 0})
-        self.assertEqual(closed(aside, rows).run, {1: 10})
-        self.assertEqual(closed(aside + [TakeBack(1, 2)], rows).amounts, {(1, 1): 20, (1, 2): 30})
-        self.assertEqual(closed(plant, rows[:1]).limits, {(1, 1): 40, (1, 2): 0})
-        self.assertEqual(closed(plant, rows[:1]).declared, {1: (40, 0)})
+        self.assertEqual(amounts(closed(aside, rows)), {(1, 1): 40, (1, 2): 0})
+        self.assertEqual(closed(aside, rows).plants[1].run, 10)
+        self.assertEqual(amounts(closed(aside + [TakeBack(1, 2)], rows)), {(1, 1): 20, (1, 2): 30})
+        self.assertEqual(limits(closed(plant, rows[:1])), {(1, 1): 40, (1, 2): 0})
+        self.assertEqual(closed(plant, rows[:1]).plants[1].declared, (40, 0))
 
     def test_guaranteed_limit_is_seasonal(self):
         entries = [AddPlant(0), AddBuyer(0), AddCompetitive(1, 100, 0), AddGuaranteed(1, 100, 20, 0, 0),
                    Commit(1, 1, 90), Correct(2, 1, 200)]
         found = closed(entries, [Tariff(5)], [Tariff(5)])
-        self.assertEqual(found.limits, {(1, 1): 100, (2, 1): 20})
-        self.assertEqual(found.shares, {1: (30, 60)})
-        self.assertEqual(found.run, {1: 40})
+        self.assertEqual(limits(found), {(1, 1): 100, (2, 1): 20})
+        self.assertEqual(found.plants[1].shares, (30, 60))
+        self.assertEqual(found.plants[1].run, 40)
 
     def test_plant_without_units(self):
         entries = [AddPlant(0), AddBuyer(0), Commit(1, 1, 50)]
@@ -305,13 +323,13 @@ class Settling(unittest.TestCase):
     def test_com_over_the_last_kwh(self):
         reading = ReadCompetitive(1, net=2_000_000, accepted=2_000_000, lost=2_000_000)
         row = PriceRow(SteppedOffer([(1_999_999, 1), (1, 2)]), Tariff(9))
-        self.assertEqual(hour.competitive_parts(reading, 2_000_000, 0, 0, 2_000, 1_000, row), (2_000_001, 0, 0))
+        self.assertEqual(hour.competitive_parts(reading, 2_000_000, 0, 0, 2_000, 1_000, row).costs, (2_000_001, 0, 0))
 
     def test_asked_unit(self):
         # a 0, b1 0, b2 [50 × 0.9 × 0.8] = 36; C at the raised cost, since A is 0.
         reading = ReadCompetitive(1, executed=50, alpha=1)
         row = PriceRow(Tariff(10), Tariff(8))
-        self.assertEqual(hour.competitive_parts(reading, 40, 0, 1_000, 2_000, 1_000, row), (0, 36 * 8, 4 * 9))
+        self.assertEqual(hour.competitive_parts(reading, 40, 0, 1_000, 2_000, 1_000, row).costs, (0, 36 * 8, 4 * 9))
 
 
 def some_hour(seed):
@@ -400,7 +418,7 @@ class ToldApart(unittest.TestCase):
         reading = told_apart.read_last()[0]
         self.assertEqual([row.offer.at(kwh) for kwh in (63, 69, 70, 71, 72, 73, 90)],
                          [110, 130, 140, 150, 160, 170, 180])
-        self.assertEqual(hour.competitive_parts(reading, 90, 40, 0, 1_000, 1_000, row), (2_310, 1_180, 2_520))
+        self.assertEqual(hour.competitive_parts(reading, 90, 40, 0, 1_000, 1_000, row).costs, (2_310, 1_180, 2_520))
 
     def test_four_counts(self):
         _, calls = hour.judge_entries(told_apart.counted_entries())

@@ -48,7 +48,7 @@ def some_curve(pick, widest):
 
 class Costs(unittest.TestCase):
     def same(self, curve, first, last):
-        self.assertEqual(BY_STRETCHES.cost(curve, first, last), KWH_BY_KWH.cost(curve, first, last),
+        self.assertEqual(BY_STRETCHES.priced(curve, first, last), KWH_BY_KWH.priced(curve, first, last),
                          (curve, first, last))
 
     def test_small_curves(self):
@@ -75,7 +75,7 @@ class Costs(unittest.TestCase):
     def test_all_kwh(self):
         offer = SteppedOffer([(1, 3), (700_000, 4), (700_000, 4), (1_000_000, 9)])
         self.same(Raised(8, Modified(700_001, offer)), 1, MOST_KWH)
-        self.assertEqual(BY_STRETCHES.cost(offer, 1, MOST_KWH), 3 + 4 * 1_400_000 + 9 * 599_999)
+        self.assertEqual(BY_STRETCHES.priced(offer, 1, MOST_KWH).cost, 3 + 4 * 1_400_000 + 9 * 599_999)
 
     def test_stretches(self):
         self.assertEqual(stretches(Modified(3, SteppedOffer([(2, 5), (4, 6)])), 1, 8), [(2, 0), (1, 0), (5, 6)])
@@ -107,8 +107,10 @@ class Splits(unittest.TestCase):
     def test_full_energies(self):
         offers = {1: SteppedOffer([(500_000, 300), (500_000, 500)]), 2: Tariff(400)}
         limits = {1: MOST_KWH, 2: MOST_KWH}
-        self.assertEqual(BY_STRETCHES.split(3_000_000, limits, offers), ({1: 1_000_000, 2: 2_000_000}, 0))
-        self.assertEqual(BY_STRETCHES.split(20_000_000, limits, offers), ({1: MOST_KWH, 2: MOST_KWH}, 16_000_000))
+        found = BY_STRETCHES.split(3_000_000, limits, offers)
+        self.assertEqual((found.amounts, found.dearest, found.uncovered), ({1: 1_000_000, 2: 2_000_000}, 500, 0))
+        found = BY_STRETCHES.split(20_000_000, limits, offers)
+        self.assertEqual((found.amounts, found.dearest, found.uncovered), ({1: MOST_KWH, 2: MOST_KWH}, 500, 16_000_000))
         self.same(600_001, limits, offers)
 
 
@@ -119,11 +121,11 @@ class Payments(unittest.TestCase):
         reading = ReadCompetitive(1, net=2_000_000, accepted=1_200_000, limited=200_000)
         for amount, parts in ((500_000, (150_000_000, 70_000_000, 240_000_000)), (1_500_000, (0, 0, 210_000_000)),
                               (2_000_000, (0, 0, 0))):
-            self.assertEqual(hour.competitive_parts(reading, 2_000_000, amount, 0, 0, 1_000, self.ROW, BY_STRETCHES),
-                             parts)
-        self.assertEqual(hour.competitive_parts(reading, 2_000_000, 1_500_000, 0, 0, 400, self.ROW, BY_STRETCHES),
-                         (0, 0, 200_000_000))
-        self.assertEqual(hour.guaranteed_payment(2_000_000, 1, 10, self.ROW.offer, BY_STRETCHES), 820_000_000)
+            found = hour.competitive_parts(reading, 2_000_000, amount, 0, 0, 1_000, self.ROW, BY_STRETCHES)
+            self.assertEqual(found.costs, parts)
+        found = hour.competitive_parts(reading, 2_000_000, 1_500_000, 0, 0, 400, self.ROW, BY_STRETCHES)
+        self.assertEqual(found.costs, (0, 0, 200_000_000))
+        self.assertEqual(hour.guaranteed_parts(2_000_000, 1, 10, self.ROW.offer, BY_STRETCHES).payment, 820_000_000)
 
     def test_small_parts(self):
         for seed in range(2_000):
@@ -139,8 +141,8 @@ class Payments(unittest.TestCase):
     def test_com_over_the_last_kwh(self):
         row = PriceRow(SteppedOffer([(1_999_999, 1), (1, 2)]), Tariff(9))
         reading = ReadCompetitive(1, accepted=2_000_000, lost=2_000_000)
-        self.assertEqual(hour.competitive_parts(reading, 2_000_000, 3, 0, 0, 1_000, row, BY_STRETCHES),
-                         (1_999_998, 0, 0))
+        found = hour.competitive_parts(reading, 2_000_000, 3, 0, 0, 1_000, row, BY_STRETCHES)
+        self.assertEqual(found.costs, (1_999_998, 0, 0))
 
 
 class Hours(unittest.TestCase):
