@@ -34,7 +34,7 @@ fn add_competitive(hour: &mut OpenHour) -> Result<[UnitRow; 4], UnitRefusal> {
     Ok([first, second, third, fourth])
 }
 
-// Sells ahead: a plant's energy to a buyer.
+// Sells energy of both plants ahead.
 fn sell(hour: &mut OpenHour) -> Result<(), BookRefusal> {
     hour.commit(1, 1, 80)?;
     hour.commit(1, 2, 20)?;

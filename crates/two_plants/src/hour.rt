@@ -4,6 +4,7 @@ use crate::readings::read;
 use book::{BookRefusal, Header, OpenHour, SettledHour};
 use curves::Tariff;
 
+// The numbers of the header, in the units of docs/hour.md.
 const CEILING: u32 = 500;
 
 const COEFFICIENT: u32 = 9_000;
