@@ -360,8 +360,7 @@ def outcome_is(call, number):
     return call.breaches if call.outcome == number else None
 
 
-def rows_of(call, calls):
-    """The rows that can turn `call` down after the accepted entries `calls`, in the order of their checks."""
+def rows_of_entry(call, calls):
     match call:
         case AddPlant():
             yield 4, full(calls, AddPlant, PLANTS)
@@ -393,6 +392,12 @@ def rows_of(call, calls):
             yield 4, full(calls, Commit, COMMITMENTS)
             yield 6, outside("volume", call.volume, 1, MOST_VOLUME)
             yield 7, outside("sold", sum(volumes_of_plant(calls, call.plant)) + call.volume, 0, MOST_VOLUME)
+        case _:
+            raise TypeError(f"no call of an hour: {call!r}")
+
+
+def rows_of_reading(call, calls):
+    match call:
         case ReadCompetitive():
             yield 2, no_unit(calls, COMPETITIVE, call.unit)
             yield 6, over(call, MOST_KWH, "net", "accepted", "lost", "limited", "executed", "p_act",
@@ -407,8 +412,12 @@ def rows_of(call, calls):
         case ReadBuyer():
             yield 3, no_buyer(calls, call.buyer)
             yield 6, over(call, MOST_USE, "use")
-        case _:
-            raise TypeError(f"no call of an hour: {call!r}")
+
+
+def rows_of(call, calls):
+    """The rows that can turn `call` down after the accepted entries `calls`, in the order of their checks."""
+    is_reading = isinstance(call, (ReadCompetitive, ReadGuaranteed, ReadBuyer))
+    return rows_of_reading(call, calls) if is_reading else rows_of_entry(call, calls)
 
 
 def widths_outside(steps, of):
