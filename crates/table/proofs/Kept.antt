@@ -13,7 +13,7 @@ use Rattle.table.specs.Entries.{rows, view_of}
 use Rattle.table.specs.History.{units_in, unit_in, sold_in, BuyersStand, CommitmentsStand, SoldStands, UnitsStand, Stands}
 use Rattle.table.specs.Metered.{Metered}
 use Rattle.table.specs.Readings.{reading_rows, applied_reading, after_reading}
-use Rattle.table.specs.Rows.{UnitTable, new_unit, new_buyer, read_use, changed, corrected, moved, with_reading, read_unit, kept_reading}
+use Rattle.table.specs.Rows.{UnitTable, new_unit, next_unit, new_buyer, read_use, changed, corrected, moved, with_reading, read_unit, kept_reading}
 use Rattle.table.specs.declared.entries.Entry.{Entry}
 use Rattle.table.specs.declared.entries.Entry.TheVariants.{AddPlant, AddCompetitive, AddGuaranteed, Correct, PutAside, TakeBack, AddBuyer, Commit}
 use Rattle.table.specs.declared.readings.Reading.{Reading}
@@ -225,7 +225,12 @@ changed_unread group unit f kept t m =
       uses = m.uses;
     })
 
--- a unit that is added has no reading
+-- no place of a group has a reading, past the rows either
+unread_at : (t : UnitTable) (k : ℕ) → length t.rows ≡ 128 → ((i : ℕ) → i < 128 → (unit_at t i).reading ≡ None) → (unit_at t k).reading ≡ None
+unread_at t k long unread =
+    ⊎_elim (λ lt. unread k lt) (λ past. ap (λ (u : UnitRecord). u.reading) (get_or_past t.rows k _ (omega (arith, long)))) (cases_lt k 128)
+
+-- a unit that is added has no reading where its place had none
 added_unread : (units : List UnitRecord) (k i : ℕ) (new : UnitRecord) → new.reading ≡ None → (get_or units i (new_unit 0 0 None 0 0)).reading ≡ None → (get_or (set units k new) i (new_unit 0 0 None 0 0)).reading ≡ None
 added_unread units k i new unread none =
     set_either (λ (u : UnitRecord). u.reading ≡ None) units k i new (new_unit 0 0 None 0 0) (λ _. unread) none
@@ -236,7 +241,7 @@ applied_unread (AddCompetitive plant declared internal) t m = record {
   competitive_long = length-set t.competitive.rows t.competitive.count _ ∙ m.competitive_long;
   guaranteed_long = m.guaranteed_long;
   buyers_long = m.buyers_long;
-  competitive = λ i lt. added_unread t.competitive.rows t.competitive.count i (new_unit plant declared None internal 0) refl (m.competitive i lt);
+  competitive = λ i lt. added_unread t.competitive.rows t.competitive.count i (next_unit (new_unit plant declared None internal 0) t.competitive) (unread_at t.competitive t.competitive.count m.competitive_long m.competitive) (m.competitive i lt);
   guaranteed = m.guaranteed;
   uses = m.uses;
 }
@@ -245,7 +250,7 @@ applied_unread (AddGuaranteed plant declared seasonal internal feeds) t m = reco
   guaranteed_long = length-set t.guaranteed.rows t.guaranteed.count _ ∙ m.guaranteed_long;
   buyers_long = m.buyers_long;
   competitive = m.competitive;
-  guaranteed = λ i lt. added_unread t.guaranteed.rows t.guaranteed.count i (new_unit plant declared (Some seasonal) internal feeds) refl (m.guaranteed i lt);
+  guaranteed = λ i lt. added_unread t.guaranteed.rows t.guaranteed.count i (next_unit (new_unit plant declared (Some seasonal) internal feeds) t.guaranteed) (unread_at t.guaranteed t.guaranteed.count m.guaranteed_long m.guaranteed) (m.guaranteed i lt);
   uses = m.uses;
 }
 applied_unread (Correct group unit declared) t m = changed_unread group unit (corrected declared) (λ u. refl) t m

@@ -9,7 +9,7 @@ use Rattle.table.specs.Closing.{terms_of}
 use Rattle.table.specs.Effects.{in_group, applied, after_entry, unless}
 use Rattle.table.specs.Entries.{lacks, lacks_unit, rows, view_of, sold_by, sold_at}
 use Rattle.table.specs.History.{adds_plant, adds_unit, adds_buyer, plants_in, units_in, buyers_in, commitments_of, loss_in, buyer_loss_in, unit_in, UnitsStand, PlantsStand, BuyersStand, CommitmentsStand, SoldStands, sold_in, Stands, view_in, next_history}
-use Rattle.table.specs.Rows.{UnitTable, new_plant, new_buyer, new_unit, added, changed, corrected, moved}
+use Rattle.table.specs.Rows.{UnitTable, new_plant, new_buyer, new_unit, next_unit, added, changed, corrected, moved}
 use Rattle.table.specs.declared.entries.Entry.{Entry}
 use Rattle.table.specs.declared.entries.Entry.TheVariants.{AddPlant, AddCompetitive, AddGuaranteed, Correct, PutAside, TakeBack, AddBuyer, Commit}
 use Rattle.table.specs.declared.records.Buyer.{Buyer}
@@ -235,7 +235,7 @@ applied_stands (AddCompetitive plant declared internal) h t s ok =
     let fits = leb-false 128 (min t.competitive.count 128) (no_row _ _ _ (no_row _ _ _ ok).1).0 in
     record {
       plants = plants_stay e h _ _ refl (λ i. refl) s.plants;
-      competitive = units_add 1 e h t.competitive (new_unit plant declared None internal 0) (omega arith) refl (λ i. refl) s.competitive;
+      competitive = units_add 1 e h t.competitive (next_unit (new_unit plant declared None internal 0) t.competitive) (omega arith) refl (λ i. refl) s.competitive;
       guaranteed = units_stay 2 e h t.guaranteed refl (λ i. refl) s.guaranteed;
       buyers = buyers_stay e h _ _ refl (λ i. refl) s.buyers;
       commitments = commitments_stay e h _ _ refl s.commitments;
@@ -247,7 +247,7 @@ applied_stands (AddGuaranteed plant declared seasonal internal feeds) h t s ok =
     record {
       plants = plants_stay e h _ _ refl (λ i. refl) s.plants;
       competitive = units_stay 1 e h t.competitive refl (λ i. refl) s.competitive;
-      guaranteed = units_add 2 e h t.guaranteed (new_unit plant declared (Some seasonal) internal feeds) (omega arith) refl (λ i. refl) s.guaranteed;
+      guaranteed = units_add 2 e h t.guaranteed (next_unit (new_unit plant declared (Some seasonal) internal feeds) t.guaranteed) (omega arith) refl (λ i. refl) s.guaranteed;
       buyers = buyers_stay e h _ _ refl (λ i. refl) s.buyers;
       commitments = commitments_stay e h _ _ refl s.commitments;
       sold = sold_stay e h _ refl s.sold;

@@ -2,7 +2,7 @@
 use Rattle.std.specs.Prelude.{ℕ, ◌+◌, ◌-◌, true, false, cond, List, [], ◌∷◌, Some, None, Ok, Err, Option, Result, ◌==◌, slice_index, slice_set}
 use Rattle.curves.specs.declared.refusals.CurveRefusal.{CurveRefusal}
 use Rattle.table.specs.Entries.{rows, view_of}
-use Rattle.table.specs.Rows.{UnitTable, new_plant, new_unit, new_buyer, corrected, moved, added, changed}
+use Rattle.table.specs.Rows.{UnitTable, new_plant, new_unit, new_buyer, corrected, moved, added_unit, changed}
 use Rattle.table.specs.declared.entries.Entry.{Entry}
 use Rattle.table.specs.declared.entries.Entry.TheVariants.{AddPlant, AddCompetitive, AddGuaranteed, Correct, PutAside, TakeBack, AddBuyer, Commit}
 use Rattle.table.specs.declared.records.Buyer.{Buyer}
@@ -116,9 +116,9 @@ answer_of entry t = unless (rows (view_of t) entry) Err (Ok (number_of entry t))
 abbrev pub applied : Entry → Table → Table
 applied (AddPlant loss) t = with_plants (t.plants.count + 1) (slice_set t.plants.rows t.plants.count (new_plant loss)) t
 applied (AddCompetitive plant declared internal) t =
-    with_competitive (added (new_unit plant declared None internal 0) t.competitive) t
+    with_competitive (added_unit (new_unit plant declared None internal 0) t.competitive) t
 applied (AddGuaranteed plant declared seasonal internal feeds) t =
-    with_guaranteed (added (new_unit plant declared (Some seasonal) internal feeds) t.guaranteed) t
+    with_guaranteed (added_unit (new_unit plant declared (Some seasonal) internal feeds) t.guaranteed) t
 applied (Correct group unit declared) t = in_group group (changed (corrected declared) unit) t
 applied (PutAside group unit) t = in_group group (changed (moved true) unit) t
 applied (TakeBack group unit) t = in_group group (changed (moved false) unit) t

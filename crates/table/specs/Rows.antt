@@ -100,6 +100,14 @@ with_reading reading u =
 abbrev pub added : {T : Type 0} {N : ℕ} → T → Rows T N → Rows T N
 added row t = record { count = t.count + 1; rows = slice_set t.rows t.count row }
 
+-- a unit as a group's next one: what was read for its number stays
+abbrev pub next_unit : UnitRecord → UnitTable → UnitRecord
+next_unit u t = record u { reading = (slice_index_or t.rows t.count (new_unit 0 0 None 0 0)).reading }
+
+-- a group's units with one more
+abbrev pub added_unit : UnitRecord → UnitTable → UnitTable
+added_unit u t = added (next_unit u t) t
+
 -- a group's units with that of a number changed by f, and no other
 abbrev pub changed : (UnitRecord → UnitRecord) → ℕ → UnitTable → UnitTable
 changed f unit t =

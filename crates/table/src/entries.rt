@@ -4,7 +4,7 @@ ghost use Rattle.table.specs.Effects.{answer_of, after_entry, after_entries, pri
 ghost use Rattle.table.specs.Groups.{units_of, with_units};
 ghost use Rattle.table.specs.EntriesCount.{EntriesCount};
 ghost use Rattle.table.specs.History.{Proper, Stands, accepted};
-ghost use Rattle.table.specs.Rows.{added, changed, moved};
+ghost use Rattle.table.specs.Rows.{added_unit, changed, moved};
 ghost use Rattle.table.specs.Turns.{EntriesAnswered};
 ghost use Rattle.table.specs.Entries.{view_of, added_rows, new_unit_rows, commit_rows, unit_rows};
 
@@ -159,10 +159,10 @@ impl Table {
 
     fn add_unit(&mut self, group: Group, unit: UnitRecord) -> Result<u32, BookRefusal>
         ensures answer { result ≡ unless (new_unit_rows (min self.old.plants.count 32) (min (units_of group self.old).count 128) unit) Err (Ok ((units_of group self.old).count + 1)) }
-        ensures after { self.new ≡ unless (new_unit_rows (min self.old.plants.count 32) (min (units_of group self.old).count 128) unit) (λ _. self.old) (with_units group (added unit (units_of group self.old)) self.old) }
+        ensures after { self.new ≡ unless (new_unit_rows (min self.old.plants.count 32) (min (units_of group self.old).count 128) unit) (λ _. self.old) (with_units group (added_unit unit (units_of group self.old)) self.old) }
     {
         self.check_unit(group, &unit)?;
-        Ok(self.units_mut(group).add(unit))
+        Ok(self.units_mut(group).add_unit(unit))
     }
 
     /// Adds a competitive unit that comes with the outcome of making its price rows, and hands these back with its
@@ -181,7 +181,7 @@ impl Table {
         let unit = UnitRecord::competitive(plant, declared, internal);
         self.check_unit(Group::Competitive, &unit)?;
         let made = rows?;
-        Ok((self.competitive.add(unit), made))
+        Ok((self.competitive.add_unit(unit), made))
     }
 
     fn commit(&mut self, plant: u32, buyer: u32, volume: u32) -> Result<u32, BookRefusal>

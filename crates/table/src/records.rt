@@ -1,7 +1,7 @@
 // The records of the book's table, in arrays of fixed length: the engine has no heap.
 ghost use Rattle.std.specs.Prelude.{◌≡◌, ◌+◌, ◌<◌, ◌≤◌, ◌*◌, None, [], slice_index_or, Some};
 ghost use Rattle.table.specs.History.{Stands, empty_table};
-ghost use Rattle.table.specs.Rows.{closed_figures, new_plant, new_unit, new_buyer, corrected, moved, changed, with_reading, kept_reading, read_use};
+ghost use Rattle.table.specs.Rows.{closed_figures, new_plant, new_unit, new_buyer, added_unit, corrected, moved, changed, with_reading, kept_reading, read_use};
 ghost use Rattle.table.specs.Texts.{unit_text, plant_text, buyer_text, hour_text};
 ghost use Rattle.table.specs.declared.records.UnitRecord.{UnitRecord};
 ghost use Rattle.std.specs.Fn.{FnOnceReturnsAtMut};
@@ -282,6 +282,16 @@ impl UnitRecord {
 }
 
 impl UnitTable {
+    // Adds a unit behind those that are entered, and answers its number. What was read for that number stays.
+    pub(crate) fn add_unit(&mut self, unit: UnitRecord) -> u32
+        requires { self.old.count < 128 }
+        ensures number { result ≡ self.old.count + 1 }
+        ensures after { self.new ≡ added_unit unit self.old }
+    {
+        let reading = self.rows[self.count].reading;
+        self.add(UnitRecord { reading, ..unit })
+    }
+
     /// Lends the record of the unit at a place to a function that changes it: that record and no other.
     pub(crate) fn change<F: FnOnce(&mut UnitRecord)>(&mut self, place: usize, change: F)
         requires place { place < 128 }
