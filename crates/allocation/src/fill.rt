@@ -1,5 +1,5 @@
 // The split of a share over a group's units.
-ghost use Rattle.std.specs.Prelude.{◌≡◌, ℕ, suc, ◌<◌, length};
+ghost use Rattle.std.specs.Prelude.{◌≡◌, ℕ, suc, ◌<◌, length, slice_index};
 ghost use Rattle.curves.specs.Limits.{read_energy};
 ghost use Rattle.curves.specs.Prices.{AtMost};
 ghost use Rattle.allocation.specs.Groups.{group_of, amount_at};
@@ -41,6 +41,14 @@ impl<'a, O: Offer> Units<'a, O> {
     }
 }
 
+// Writes 0 at every place.
+fn clear(amounts: &mut [u32])
+    ensures long { length amounts.new ≡ length amounts.old }
+    ensures zeros { (j : ℕ) → slice_index amounts.new j ≡ 0 }
+{
+    amounts.fill(0);
+}
+
 /// Splits `share` kWh over a group's units in merit order, writes each unit's kWh at its place of `amounts`, and
 /// answers the kWh that stay uncovered. A unit is one of the first 128 places, if `offers`, `limits` and `amounts` all
 /// have it; other amounts are written as 0. A limit is in kWh, and over 2,000,000 it is read as 2,000,000.
@@ -50,6 +58,6 @@ pub fn split<O: Offer>(offers: &[O], limits: &[u32], share: u32, amounts: &mut [
     let units = Units::new(offers, limits, amounts.len());
     let price = units.marginal_price(share);
     let rest = share - units.supply_below(price);
-    amounts.fill(0);
+    clear(amounts);
     units.fill(price, rest, amounts)
 }

@@ -1,6 +1,4 @@
-use Rattle.std.proofs.Common.{rules, ◌≡◌, ℕ, ◌<◌, length, get_or, List, ap, subst, ⊎_elim, ◌∙◌, arith}
-use Rattle.std.proofs.lemmas.List.{get_or_past}
-use Rattle.std.proofs.lemmas.Bool.{cases_lt}
+use Rattle.std.proofs.Common.{◌≡◌, ℕ, ◌<◌, length, List, ap, subst, ◌∙◌, arith}
 use Rattle.allocation.specs.Groups.{units_of, group_of, amount_at}
 use Rattle.allocation.specs.Merit.{MeritOrder}
 use Rattle.allocation.specs.Units.{BusyPlaces, part_of, place_in, units_in}
@@ -22,16 +20,12 @@ returns g c =
     let place = place_in units in
     let places : BusyPlaces group.limit group.units units.count place = c.new-units.ensures.busy in
     let share = c.args.share in
-    let row = amount_at c.fill-2.new.amounts in
-    let left = c.fill-2.result in
+    let row = amount_at c.fill.new.amounts in
+    let left = c.fill.result in
     let found = filled_merit (units_in prices units) share c.marginal_price-price.result _ left (λ i. row (place i))
     c.marginal_price-price.ensures
-    (omega (arith, c.supply_below.ensures)) c.fill-2.ensures.filled in
-    let cleared : (j : ℕ) → get_or c.fill.new.self j 0 ≡ 0 = λ j. ⊎_elim
-    (λ (lt : j < length c.fill.new.self). search rules)
-    (λ past. get_or_past c.fill.new.self j 0 past)
-    (cases_lt j (length c.fill.new.self)) in
-    let none : (j : ℕ) → ((i : ℕ) → i < units.count → place i ≡ j → ⊥) → row j ≡ 0 = λ j other. c.fill-2.ensures.others j other ∙ cleared j in
+    (omega (arith, c.supply_below.ensures)) c.fill.ensures.filled in
+    let none : (j : ℕ) → ((i : ℕ) → i < units.count → place i ≡ j → ⊥) → row j ≡ 0 = λ j other. c.fill.ensures.others j other ∙ c.clear.ensures.zeros j in
     let idle : (j : ℕ) → j < group.units → group.limit j ≡ 0 → row j ≡ 0 = λ j lt idle. none j (λ i at same. omega (arith, places.busy i at, ap group.limit same)) in
     let part = λ (offers : List g.row.O.Denot) (limits : List ℕ). MeritOrder (part_of (units_of prices offers limits units.count) units.count place) share (λ i. row (place i)) in
     let merit = subst (part c.args.offers.now) c.new-units.ensures.limits (subst (λ offers. part offers units.limits.now) c.new-units.ensures.offers found.0) in
