@@ -1,4 +1,5 @@
 // Pseudo-random hours, each drawn from its number.
+use crate::failures::Failure;
 use crate::row_draws::Drawn;
 use crate::runs::{Cases, Plan};
 use crate::source::Source;
@@ -9,7 +10,7 @@ use std::alloc::Global;
 pub(crate) fn drawn_plan<G: Offer + Drawn, S: Offer + Drawn>(
     heap: Global,
     number: u32,
-) -> anyhow::Result<Plan<G, S>> {
+) -> Result<Plan<G, S>, Failure> {
     let mut source = Source::new(heap, number);
     let competitive = source.competitive;
     let guaranteed = source.guaranteed;
@@ -27,7 +28,10 @@ pub(crate) fn drawn_plan<G: Offer + Drawn, S: Offer + Drawn>(
 
 impl Cases {
     // Draws and runs one hour. Its number says in which of three ways, and so does the report, which begins with it.
-    fn run_drawn<G: Offer + Drawn, S: Offer + Drawn>(&mut self, number: u32) -> anyhow::Result<()> {
+    fn run_drawn<G: Offer + Drawn, S: Offer + Drawn>(
+        &mut self,
+        number: u32,
+    ) -> Result<(), Failure> {
         self.report.line(format_args!("hour {number}"))?;
         let plan = drawn_plan::<G, S>(self.heap, number)?;
         match number % 3 {
@@ -38,7 +42,7 @@ impl Cases {
     }
 
     /// Draws and runs one hour. Its number says of what kinds its guaranteed offers are.
-    pub(crate) fn drawn_hour(&mut self, number: u32) -> anyhow::Result<()> {
+    pub(crate) fn drawn_hour(&mut self, number: u32) -> Result<(), Failure> {
         match number % 4 {
             0 => self.run_drawn::<Tariff, Tariff>(number),
             1 => self.run_drawn::<SteppedOffer, SteppedOffer>(number),

@@ -1,5 +1,6 @@
 // An hour with units that have no row, and with net energies at their limit.
 use crate::calls::{buyer, commit, competitive, guaranteed, plant, read_use};
+use crate::failures::Failure;
 use crate::fixed_hours::plan_with_rows;
 use crate::limit_readings::{competitive_with, guaranteed_with};
 use crate::runs::Cases;
@@ -42,7 +43,7 @@ fn readings(readings: &mut Vec<Reading>) -> Result<(), AllocError> {
 }
 
 impl Cases {
-    pub(crate) fn units_without_rows(&mut self) -> anyhow::Result<()> {
+    pub(crate) fn units_without_rows(&mut self) -> Result<(), Failure> {
         self.report.line("case units without rows")?;
         let mut plan = plan_with_rows(self.heap, 1)?;
         entries(&mut plan.entries)?;

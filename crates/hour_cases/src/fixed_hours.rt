@@ -1,5 +1,6 @@
 // Fixed hours: calls on both sides of the limits, full tables, and a book that is used again.
 use crate::calls::{buyer, commit, competitive, guaranteed, plant, read_use, step};
+use crate::failures::Failure;
 use crate::full_tables::{full_entries, full_readings};
 use crate::limit_entries::limit_entries;
 use crate::limit_readings::{last_readings, limit_readings};
@@ -11,7 +12,7 @@ use std::alloc::Global;
 const TARIFF: Tariff = Tariff { rate: 400 };
 
 /// An hour without calls, with so many equal rows for each group.
-pub(crate) fn plan_with_rows(heap: Global, count: usize) -> anyhow::Result<Plan<Tariff, Tariff>> {
+pub(crate) fn plan_with_rows(heap: Global, count: usize) -> Result<Plan<Tariff, Tariff>, Failure> {
     let offer = SteppedOffer::new(&[step(100, 300), step(100, 500)])?;
     let cost = SteppedCost::new(&[step(100, 350)])?;
     Ok(Plan {
@@ -27,7 +28,7 @@ pub(crate) fn plan_with_rows(heap: Global, count: usize) -> anyhow::Result<Plan<
 }
 
 // A small hour that is not read yet.
-fn small_plan(heap: Global) -> anyhow::Result<Plan<Tariff, Tariff>> {
+fn small_plan(heap: Global) -> Result<Plan<Tariff, Tariff>, Failure> {
     let mut plan = plan_with_rows(heap, 1)?;
     plan.entries.extend(&[
         plant(0),
@@ -40,13 +41,13 @@ fn small_plan(heap: Global) -> anyhow::Result<Plan<Tariff, Tariff>> {
 }
 
 impl Cases {
-    fn nothing(&mut self) -> anyhow::Result<()> {
+    fn nothing(&mut self) -> Result<(), Failure> {
         let mut plan = plan_with_rows(self.heap, 0)?;
         plan.asked.extend(&[0, 1])?;
         self.run_by_name(&plan)
     }
 
-    fn limits(&mut self) -> anyhow::Result<()> {
+    fn limits(&mut self) -> Result<(), Failure> {
         self.report.line("case limits")?;
         let mut plan = plan_with_rows(self.heap, 8)?;
         limit_entries(&mut plan.entries)?;
@@ -55,7 +56,7 @@ impl Cases {
         self.run_by_name(&plan)
     }
 
-    fn full_tables(&mut self) -> anyhow::Result<()> {
+    fn full_tables(&mut self) -> Result<(), Failure> {
         self.report.line("case full tables")?;
         let mut plan = plan_with_rows(self.heap, 130)?;
         full_entries(&mut plan.entries)?;
@@ -64,7 +65,7 @@ impl Cases {
         self.run_at_once(&plan)
     }
 
-    fn no_units(&mut self) -> anyhow::Result<()> {
+    fn no_units(&mut self) -> Result<(), Failure> {
         self.report.line("case plant without units")?;
         let mut plan = plan_with_rows(self.heap, 0)?;
         plan.entries
@@ -73,19 +74,19 @@ impl Cases {
         self.run_one_by_one(&plan)
     }
 
-    fn small_hour(&mut self) -> anyhow::Result<()> {
+    fn small_hour(&mut self) -> Result<(), Failure> {
         self.report.line("case small hour")?;
         let mut plan = small_plan(self.heap)?;
         last_readings(&mut plan.readings)?;
         self.run_one_by_one(&plan)
     }
 
-    fn nothing_read(&mut self) -> anyhow::Result<()> {
+    fn nothing_read(&mut self) -> Result<(), Failure> {
         let plan = small_plan(self.heap)?;
         self.run_one_by_one(&plan)
     }
 
-    fn open_hour_let_go(&mut self) -> anyhow::Result<()> {
+    fn open_hour_let_go(&mut self) -> Result<(), Failure> {
         self.report.line("case open hour let go")?;
         let plan = small_plan(self.heap)?;
         plan.opened(&mut self.book, &mut self.report, enter_by_name)?;
@@ -94,7 +95,7 @@ impl Cases {
     }
 
     // The small hour is let go once it is closed and read, and another follows.
-    fn closed_hour_let_go(&mut self) -> anyhow::Result<()> {
+    fn closed_hour_let_go(&mut self) -> Result<(), Failure> {
         self.report.line("case closed hour let go")?;
         let mut plan = small_plan(self.heap)?;
         last_readings(&mut plan.readings)?;
@@ -105,7 +106,7 @@ impl Cases {
     }
 
     /// All fixed hours, on one book. No hour shows anything of those before it.
-    pub(crate) fn fixed_hours(&mut self) -> anyhow::Result<()> {
+    pub(crate) fn fixed_hours(&mut self) -> Result<(), Failure> {
         self.report.line("case nothing entered")?;
         self.nothing()?;
         self.limits()?;

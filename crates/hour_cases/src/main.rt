@@ -6,6 +6,7 @@ mod calls;
 mod drawn_hours;
 mod edge_hours;
 mod entry_draws;
+mod failures;
 mod fixed_hours;
 mod full_tables;
 mod limit_entries;
@@ -20,6 +21,7 @@ mod runs;
 mod source;
 mod told_apart;
 
+use failures::Failure;
 use runs::Cases;
 use std::alloc::Global;
 
@@ -27,7 +29,7 @@ const HOURS: u32 = 200;
 
 const MIXED_HOURS: u32 = 30;
 
-fn all_cases(heap: Global) -> anyhow::Result<String> {
+fn all_cases(heap: Global) -> Result<String, Failure> {
     let mut cases = Cases::new(heap);
     cases.report.makings()?;
     cases.report.refusal_texts()?;

@@ -1,5 +1,6 @@
 // Lists of calls in whatever order: those of drawn hours, with others out of turn among them.
 use crate::drawn_hours::drawn_plan;
+use crate::failures::Failure;
 use crate::report::Report;
 use crate::row_draws::Drawn;
 use crate::runs::{Cases, Plan};
@@ -150,7 +151,10 @@ impl Report {
 }
 
 impl Cases {
-    fn run_mixed<G: Offer + Drawn, S: Offer + Drawn>(&mut self, number: u32) -> anyhow::Result<()> {
+    fn run_mixed<G: Offer + Drawn, S: Offer + Drawn>(
+        &mut self,
+        number: u32,
+    ) -> Result<(), Failure> {
         self.report.line(format_args!("mixed hour {number}"))?;
         let plan = drawn_plan::<G, S>(self.heap, number)?;
         let mut turns = plan.turns(self.heap, End::of(number))?;
@@ -164,7 +168,7 @@ impl Cases {
     }
 
     /// Draws an hour, and runs its calls with others out of turn among them.
-    pub(crate) fn mixed_hour(&mut self, number: u32) -> anyhow::Result<()> {
+    pub(crate) fn mixed_hour(&mut self, number: u32) -> Result<(), Failure> {
         match number % 4 {
             0 => self.run_mixed::<Tariff, Tariff>(number),
             1 => self.run_mixed::<SteppedOffer, SteppedOffer>(number),

@@ -1,5 +1,6 @@
 // The offers and the price rows of a pseudo-random hour.
 use crate::calls::step;
+use crate::failures::Failure;
 use crate::source::Source;
 use book::PriceRow;
 use curves::{Step, Stepped, Tariff};
@@ -8,11 +9,11 @@ use std::alloc::AllocError;
 /// A row that closing or settling takes for a unit.
 pub trait Drawn: Drop {
     /// Draws one.
-    fn draw(source: &mut Source) -> anyhow::Result<Self>;
+    fn draw(source: &mut Source) -> Result<Self, Failure>;
 }
 
 impl<const RISES: bool> Drawn for Stepped<RISES> {
-    fn draw(source: &mut Source) -> anyhow::Result<Stepped<RISES>> {
+    fn draw(source: &mut Source) -> Result<Stepped<RISES>, Failure> {
         let steps = if RISES {
             source.rising_steps()?
         } else {
@@ -23,7 +24,7 @@ impl<const RISES: bool> Drawn for Stepped<RISES> {
 }
 
 impl Drawn for Tariff {
-    fn draw(source: &mut Source) -> anyhow::Result<Tariff> {
+    fn draw(source: &mut Source) -> Result<Tariff, Failure> {
         let rate = match source.random.below(2) {
             0 => source.rate,
             _ => source.any_price(),
@@ -33,7 +34,7 @@ impl Drawn for Tariff {
 }
 
 impl<O: Drawn, C: Drawn> Drawn for PriceRow<O, C> {
-    fn draw(source: &mut Source) -> anyhow::Result<PriceRow<O, C>> {
+    fn draw(source: &mut Source) -> Result<PriceRow<O, C>, Failure> {
         Ok(PriceRow {
             offer: O::draw(source)?,
             cost: C::draw(source)?,
@@ -79,7 +80,7 @@ impl Source {
     }
 
     /// Draws the rows of a group of so many units.
-    pub(crate) fn draw_rows<R: Drawn>(&mut self, units: u32) -> anyhow::Result<Vec<R>> {
+    pub(crate) fn draw_rows<R: Drawn>(&mut self, units: u32) -> Result<Vec<R>, Failure> {
         let heap = self.heap;
         let count = self.row_count(units);
         (0..count).map(|_| R::draw(self)).try_collect(heap)

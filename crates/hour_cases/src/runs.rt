@@ -1,5 +1,6 @@
 // Runs the calls of an hour on a book: all at once, each as a value, or each by the method of its name.
 use crate::calls::Answer;
+use crate::failures::Failure;
 use crate::report::Report;
 use book::{Book, Calls, ClosedHour, Entry, Header, OpenHour, PriceRow, Reading, run_settled};
 use curves::{Offer, SteppedCost, SteppedOffer};
@@ -135,7 +136,7 @@ impl Cases {
     pub(crate) fn run_at_once<G: Offer + Drop, S: Offer + Drop>(
         &mut self,
         plan: &Plan<G, S>,
-    ) -> anyhow::Result<()> {
+    ) -> Result<(), Failure> {
         let mut entered = vec![in self.heap; Ok(0); plan.entries.len()]?;
         let mut read = vec![in self.heap; Ok(0); plan.readings.len()]?;
         let hour = run_settled(
@@ -156,7 +157,7 @@ impl Cases {
     pub(crate) fn run_one_by_one<G: Offer + Drop, S: Offer + Drop>(
         &mut self,
         plan: &Plan<G, S>,
-    ) -> anyhow::Result<()> {
+    ) -> Result<(), Failure> {
         self.run_in_turn(
             plan,
             |hour, entry| hour.enter(entry),
@@ -168,7 +169,7 @@ impl Cases {
     pub(crate) fn run_by_name<G: Offer + Drop, S: Offer + Drop>(
         &mut self,
         plan: &Plan<G, S>,
-    ) -> anyhow::Result<()> {
+    ) -> Result<(), Failure> {
         self.run_in_turn(plan, enter_by_name, read_by_name)
     }
 
@@ -177,7 +178,7 @@ impl Cases {
         S: Offer + Drop,
         E: Fn(&mut OpenHour, Entry) -> Answer,
         R: Fn(&mut ClosedHour, Reading) -> Answer,
-    >(&mut self, plan: &Plan<G, S>, enter: E, read: R) -> anyhow::Result<()>
+    >(&mut self, plan: &Plan<G, S>, enter: E, read: R) -> Result<(), Failure>
         requires enters { E.IsAlwaysCallable enter }
         requires reads { R.IsAlwaysCallable read }
     {

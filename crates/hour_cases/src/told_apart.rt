@@ -3,6 +3,7 @@
 use crate::calls::{
     buyer, commit, competitive, correct, guaranteed, plant, put_aside, read_use, step, take_back,
 };
+use crate::failures::Failure;
 use crate::fixed_hours::plan_with_rows;
 use crate::limit_readings::{competitive_with, guaranteed_with};
 use crate::runs::{Cases, enter_by_name};
@@ -302,14 +303,14 @@ fn unit_rows() -> Result<[UnitRow; 5], CurveRefusal> {
 }
 
 impl Cases {
-    fn group_full(&mut self, one: Entry, other: Entry) -> anyhow::Result<()> {
+    fn group_full(&mut self, one: Entry, other: Entry) -> Result<(), Failure> {
         let mut plan = plan_with_rows(self.heap, 0)?;
         full_group(&mut plan.entries, one, other)?;
         plan.opened(&mut self.book, &mut self.report, enter_by_name)?;
         Ok(())
     }
 
-    fn four_counts(&mut self) -> anyhow::Result<()> {
+    fn four_counts(&mut self) -> Result<(), Failure> {
         let mut plan = plan_with_rows(self.heap, 6)?;
         counted_entries(&mut plan.entries)?;
         counted_readings(&mut plan.readings)?;
@@ -317,7 +318,7 @@ impl Cases {
         self.run_by_name(&plan)
     }
 
-    fn orders(&mut self) -> anyhow::Result<()> {
+    fn orders(&mut self) -> Result<(), Failure> {
         let mut plan = plan_with_rows(self.heap, 6)?;
         added(&mut plan.entries)?;
         competitive_changes(&mut plan.entries)?;
@@ -338,7 +339,7 @@ impl Cases {
     }
 
     /// Runs the hours in which mixed-up tables, numbers or orders change an answer.
-    pub(crate) fn told_apart(&mut self) -> anyhow::Result<()> {
+    pub(crate) fn told_apart(&mut self) -> Result<(), Failure> {
         let (one, two) = (competitive(1, 5, 0), guaranteed(1, 5, 5, 0, 0));
         self.report.line("case competitive units full")?;
         self.group_full(one, two)?;

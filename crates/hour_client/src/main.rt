@@ -6,15 +6,24 @@ mod sale;
 mod sales;
 mod tariffs;
 
-use book::{Book, Header};
+use book::{Book, BookRefusal, Header, PlantFigures};
+use std::io;
 
-fn main(rt: HostRuntime) -> anyhow::Result<()> {
+fn figures() -> Result<(u128, PlantFigures), BookRefusal> {
     let header = Header::new(1_000, 10_000, 200, 0, 0)?;
     let mut book = Book::new();
     let cost = sale::support_cost(&mut book, header)?;
-    println!(rt; "cost {cost}")?;
     let plant = tariffs::plant(&mut book, header)?;
-    println!(rt; "plant {plant}")?;
     tariffs::let_go(&mut book, header);
-    Ok(())
+    Ok((cost, plant))
+}
+
+fn main(rt: HostRuntime) -> io::Result<()> {
+    match figures() {
+        Ok((cost, plant)) => {
+            println!(rt; "cost {cost}")?;
+            println!(rt; "plant {plant}")
+        }
+        Err(refusal) => println!(rt; "refused {}", refusal.number()),
+    }
 }

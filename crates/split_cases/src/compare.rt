@@ -1,5 +1,6 @@
 // Compares over many groups, and counts those that differ.
 use crate::cases::Case;
+use crate::failures::Failure;
 use crate::offers::{FromSteps, offers_of};
 use crate::outcomes::Outcome;
 use crate::single::Single;
@@ -12,8 +13,8 @@ pub(crate) fn compare_splits<O: FromSteps>(
     heap: Global,
     groups: u32,
     most_steps: u32,
-) -> anyhow::Result<Tally> {
-    compare(heap, 1, groups, |heap, random| -> anyhow::Result<bool> {
+) -> Result<Tally, Failure> {
+    compare(heap, 1, groups, |heap, random| -> Result<bool, Failure> {
         let case = Case::make(heap, random, most_steps)?;
         let offers = offers_of::<O>(heap, &case)?;
         let split = Outcome::of_offers(heap, &case, offers.as_slice())?;
@@ -22,8 +23,8 @@ pub(crate) fn compare_splits<O: FromSteps>(
 }
 
 /// Compares the costs and counts of stepped offers with those of the same offers in single kWh.
-pub(crate) fn compare_curves(heap: Global, groups: u32, most_steps: u32) -> anyhow::Result<Tally> {
-    compare(heap, 2, groups, |heap, random| -> anyhow::Result<bool> {
+pub(crate) fn compare_curves(heap: Global, groups: u32, most_steps: u32) -> Result<Tally, Failure> {
+    compare(heap, 2, groups, |heap, random| -> Result<bool, Failure> {
         let case = Case::make(heap, random, most_steps)?;
         let stepped = offers_of::<SteppedOffer>(heap, &case)?;
         let single = offers_of::<Single>(heap, &case)?;

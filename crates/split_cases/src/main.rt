@@ -4,6 +4,7 @@
 mod by_kwh;
 mod cases;
 mod compare;
+mod failures;
 mod offers;
 mod outcomes;
 mod single;

@@ -1,5 +1,6 @@
 // Offers made from lists of steps.
 use crate::cases::Case;
+use crate::failures::Failure;
 use curves::{CurveRefusal, Offer, Step, SteppedOffer, Tariff};
 use std::alloc::Global;
 
@@ -23,9 +24,9 @@ impl FromSteps for Tariff {
 }
 
 /// The offer of each unit.
-pub(crate) fn offers_of<O: FromSteps>(heap: Global, case: &Case) -> anyhow::Result<Vec<O>> {
+pub(crate) fn offers_of<O: FromSteps>(heap: Global, case: &Case) -> Result<Vec<O>, Failure> {
     case.units
         .iter()
-        .map(|unit| -> anyhow::Result<O> { Ok(O::from_steps(unit.steps.as_slice())?) })
+        .map(|unit| -> Result<O, Failure> { Ok(O::from_steps(unit.steps.as_slice())?) })
         .try_collect(heap)
 }

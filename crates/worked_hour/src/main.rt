@@ -4,8 +4,12 @@
 mod examples;
 mod worked;
 
-fn main(rt: HostRuntime) -> anyhow::Result<()> {
+use std::io;
+
+fn main(rt: HostRuntime) -> io::Result<()> {
     examples::worked_examples();
-    rt.print(worked::worked_figures()?)?;
-    Ok(())
+    match worked::worked_figures() {
+        Ok(figures) => rt.print(figures),
+        Err(refused) => println!(rt; "refused: {refused}"),
+    }
 }
