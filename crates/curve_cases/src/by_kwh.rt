@@ -75,17 +75,15 @@ fn read_steps(heap: Global, table: &StepTable, rises: bool) -> Result<Vec<Step>,
 
 /// The prices of the 120 kWh after the first `skipped`, by steps within their limits.
 pub(crate) fn expanded(heap: Global, steps: &[Step], skipped: u32) -> Result<Vec<u32>, AllocError> {
-    (skipped..skipped.saturating_add(WINDOW))
-        .map(|place| price_at(steps, place))
-        .collect(heap)
-}
-
-// The price of the kWh that has `place` others before it; that of the last step goes on.
-fn price_at(steps: &[Step], place: u32) -> u32 {
+    let mut prices = Vec::new(heap);
     let mut end = 0u32;
-    let step = steps.iter().find(|step| {
+    for step in steps {
         end = end.saturating_add(step.width);
-        place < end
-    });
-    step.or(steps.last()).map_or(0, |step| step.price)
+        let among = end.saturating_sub(skipped).min(WINDOW);
+        prices.resize(among as usize, step.price)?;
+    }
+    // The price of the last step goes on.
+    let last = steps.last().map_or(0, |step| step.price);
+    prices.resize(WINDOW as usize, last)?;
+    Ok(prices)
 }

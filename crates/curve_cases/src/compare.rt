@@ -76,7 +76,7 @@ pub(crate) fn same_prices<C: Curve>(curve: &C, near: &[u32], far: &[u32]) -> boo
 // Prices, costs and stretch ends of the 120 kWh after the first `skipped`.
 fn same_window<C: Curve>(curve: &C, skipped: u32, prices: &[u32]) -> bool {
     let mut total = curve.cost(skipped);
-    let numbers = skipped.saturating_add(1)..=LAST_KWH;
+    let numbers = skipped.saturating_add(1)..LAST_KWH + 1;
     prices.len() == WINDOW as usize
         && prices.iter().enumerate().zip(numbers).all(|((i, price), kwh)| {
             total = total.saturating_add(*price as u64);
@@ -88,13 +88,14 @@ fn same_window<C: Curve>(curve: &C, skipped: u32, prices: &[u32]) -> bool {
 
 // Whether the kWh from `kwh` up to `end` have one price; that of `kwh` stands at `place`.
 fn stretch_fits(kwh: u32, end: u32, prices: &[u32], place: usize) -> bool {
-    kwh <= end
-        && end <= LAST_KWH
-        && prices
-            .iter()
-            .skip(place)
-            .take((end - kwh) as usize + 1)
-            .all(|price| Some(price) == prices.get(place))
+    let Some([price, later @ ..]) = prices.get(place..) else {
+        return false;
+    };
+    if end < kwh || end > LAST_KWH {
+        return false;
+    }
+    let count = later.len().min((end - kwh) as usize);
+    later[..count].iter().all(|each| each == price)
 }
 
 // Whether numbers outside the limits are read as the nearest within.

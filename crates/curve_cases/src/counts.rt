@@ -48,9 +48,12 @@ impl<O: Offer> Priced<O> {
     }
 
     fn same_count(&self, energy: u32, price: u32) -> bool {
-        let first = self.prices.iter().take(energy as usize);
-        let count = first.filter(|each| **each <= price).count();
-        self.offer.count_at_most(energy, price) as usize == count
+        let prices = self.prices.as_slice();
+        let first = &prices[..prices.len().min(energy as usize)];
+        let count = first.iter().fold(0u32, |count, each| {
+            count.saturating_add(u32::from(*each <= price))
+        });
+        self.offer.count_at_most(energy, price) == count
     }
 }
 
